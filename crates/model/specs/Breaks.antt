@@ -6,13 +6,15 @@ use mathlib.Core.Bool.{true, false}
 use mathlib.Core.List.{List, [], _∷_, _++_, map}
 use lib.ListN.{length, drop}
 use Rattle.std.specs.shelf.Lists.{All, Has}
+use Rattle.model.specs.declared.types.Span.{Span}
+use Rattle.model.specs.declared.types.Entry.{Entry}
 use Rattle.model.specs.Bytes.{le}
 use Rattle.model.specs.Faults.{Fault, fault, Check}
-use Rattle.model.specs.References.{Span, span, end-of, span-at}
+use Rattle.model.specs.References.{span, end-of, span-at}
 use Rattle.model.specs.Headers.{header-span, Header}
 use Rattle.model.specs.Nodes.{Node, hands-over, bad-node, field-of, referring}
 use Rattle.model.specs.ListFragments.{owner, nodes-to}
-use Rattle.model.specs.LogFragments.{Entry, entry-at, sentinel, entries-in, entry-place, log-next}
+use Rattle.model.specs.LogFragments.{entry-at, sentinel, entries-in, entry-place, log-next}
 use Rattle.model.specs.Section.{Log, NodeList, flat, last-of, latest, count-in, list-fragments, first-of}
 use Rattle.model.specs.OpenedLists.{Named}
 use Rattle.model.specs.Opened.{header-checks}

@@ -4,10 +4,11 @@ use mathlib.Core.Bool.{cond}
 use mathlib.Core.List.{List, [], _∷_, _++_, map}
 use lib.Dec.{ltb}
 use lib.ListN.{length, take, drop}
+use Rattle.model.specs.declared.types.Entry.{Entry}
 use Rattle.model.specs.Bytes.{digits, Write, put, applied, behind}
 use Rattle.model.specs.References.{span, span-bytes}
 use Rattle.model.specs.Headers.{Header}
-use Rattle.model.specs.LogFragments.{Entry, entry, entry-bytes, sentinel, entries-in, entry-place, log-next, new-log-fragment}
+use Rattle.model.specs.LogFragments.{entry, entry-bytes, sentinel, entries-in, entry-place, log-next, new-log-fragment}
 use Rattle.model.specs.Section.{Section, last-of}
 use Rattle.model.specs.Layouts.{Add, Layout, find-tail}
 use Rattle.model.specs.Saving.{at-end, layout}

@@ -6,9 +6,10 @@ use lib.Dec.{eqb}
 use lib.ListN.{length}
 use Rattle.std.specs.declared.option.Option.{Option}
 use Rattle.std.specs.declared.option.Option.the-variants.{Some, None}
+use Rattle.model.specs.declared.types.Span.{Span}
 use Rattle.model.specs.Bytes.{piece}
 use Rattle.model.specs.Faults.{Outcome, done, refused}
-use Rattle.model.specs.References.{Span, span}
+use Rattle.model.specs.References.{span}
 use Rattle.model.specs.Nodes.{Node}
 use Rattle.model.specs.Section.{Section}
 use Rattle.model.specs.Opened.{opened}

@@ -1,8 +1,9 @@
 -- The header: the fields of a file's first 1,024 bytes that are used.
 use Prim.Native.Nat.{ℕ, _^_}
 use mathlib.Core.List.{List, [], _∷_, _++_}
+use Rattle.model.specs.declared.types.Span.{Span}
 use Rattle.model.specs.Bytes.{le, digits, piece}
-use Rattle.model.specs.References.{Span, span, span-at}
+use Rattle.model.specs.References.{span, span-at}
 
 -- the header's 1,024 bytes
 abbrev pub header-span : Span

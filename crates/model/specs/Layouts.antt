@@ -4,7 +4,8 @@ use mathlib.Core.Bool.{Bool, false, cond, _||_}
 use mathlib.Core.List.{List, [], _∷_, _++_, map}
 use lib.Dec.{eqb}
 use lib.ListN.{length}
-use Rattle.model.specs.References.{Span, span}
+use Rattle.model.specs.declared.types.Span.{Span}
+use Rattle.model.specs.References.{span}
 use Rattle.model.specs.Section.{NodeList, Section, flat, last-of, fragments-of}
 
 -- one add to a list: a node's ID and payload, and for two of the kinds what it refers to

@@ -23,3 +23,4 @@ pub mod Contents
 pub mod Theorem
 pub mod Laws
 pub mod Examples
+pub mod Worked

@@ -4,8 +4,9 @@ use mathlib.Core.Bool.{Bool, not, _||_}
 use mathlib.Core.List.{List, _++_}
 use lib.Dec.{eqb}
 use lib.ListN.{length, replicate}
+use Rattle.model.specs.declared.types.Span.{Span}
 use Rattle.model.specs.Bytes.{le, digits}
-use Rattle.model.specs.References.{Span, end-of, nil, span-bytes}
+use Rattle.model.specs.References.{end-of, nil, span-bytes}
 
 abbrev pub first-mark : ℕ
 first-mark = 0xA4567AB1F5F7F4C4

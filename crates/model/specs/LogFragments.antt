@@ -2,14 +2,11 @@
 use Prim.Native.Nat.{ℕ, _+_, _-_, _*_, _/_}
 use mathlib.Core.List.{List, [], _∷_, _++_}
 use lib.ListN.{length, replicate}
+use Rattle.model.specs.declared.types.Span.{Span}
+use Rattle.model.specs.declared.types.Entry.{Entry}
 use Rattle.model.specs.Bytes.{le, digits}
 use Rattle.model.specs.Crc.{crcOf, crc-32}
-use Rattle.model.specs.References.{Span, nil, span-bytes}
-
--- an entry: 1 for a sentinel, which ends a transaction, else a list's ID; and a number
-pub record Entry : Type 0 where
-  pub source : ℕ
-  pub number : ℕ
+use Rattle.model.specs.References.{nil, span-bytes}
 
 abbrev pub entry : ℕ → ℕ → Entry
 entry s n = record { source = s; number = n }

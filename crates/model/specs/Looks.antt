@@ -6,9 +6,10 @@ use lib.Dec.{eqb, ltb, leb}
 use lib.ListN.{length, getD, drop}
 use Rattle.std.specs.declared.option.Option.{Option}
 use Rattle.std.specs.declared.option.Option.the-variants.{Some, None}
+use Rattle.model.specs.declared.types.Span.{Span}
 use Rattle.model.specs.Bytes.{piece, same-row}
 use Rattle.model.specs.Faults.{fault, Outcome, done, refused, unless, then}
-use Rattle.model.specs.References.{Span, span, absent, present}
+use Rattle.model.specs.References.{span, absent, present}
 use Rattle.model.specs.Nodes.{Node}
 use Rattle.model.specs.Section.{NodeList, Section, count-at}
 use Rattle.model.specs.OpenedLists.{taken}

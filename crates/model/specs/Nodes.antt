@@ -4,8 +4,9 @@ use mathlib.Core.Bool.{Bool, cond, _&&_, _||_}
 use mathlib.Core.List.{List, [], _∷_, _++_}
 use lib.Dec.{eqb, ltb}
 use lib.ListN.{length}
+use Rattle.model.specs.declared.types.Span.{Span}
 use Rattle.model.specs.Bytes.{le, digits, piece}
-use Rattle.model.specs.References.{Span, span, present, span-bytes, start-width, size-width, span-in}
+use Rattle.model.specs.References.{span, present, span-bytes, start-width, size-width, span-in}
 
 pub record Node : Type 0 where
   pub place : ℕ

@@ -7,10 +7,12 @@ use mathlib.Core.Bool.{Bool, cond, not, _||_}
 use mathlib.Core.List.{List, [], _∷_, _++_}
 use lib.Dec.{eqb, ltb, leb}
 use lib.ListN.{length}
+use Rattle.model.specs.declared.types.Span.{Span}
+use Rattle.model.specs.declared.types.Entry.{Entry}
 use Rattle.model.specs.Faults.{fault, Outcome, done, refused, Check, unless, then}
-use Rattle.model.specs.References.{Span, end-of, absent, share, meets, span-at}
+use Rattle.model.specs.References.{end-of, absent, share, meets, span-at}
 use Rattle.model.specs.Headers.{header-span, Header}
-use Rattle.model.specs.LogFragments.{Entry, entry-at, sentinel, entries-in, entry-place, log-next}
+use Rattle.model.specs.LogFragments.{entry-at, sentinel, entries-in, entry-place, log-next}
 use Rattle.model.specs.Section.{Log, flat, latest}
 
 -- 5 outside: a fragment's reference is absent, its size is under the least one, or it ends past the file's end

@@ -3,12 +3,8 @@ use Prim.Native.Nat.{ℕ, _+_, _-_, _*_, _^_}
 use mathlib.Core.Bool.{Bool, false, cond, not, _&&_, _||_}
 use mathlib.Core.List.{List, [], _∷_, _++_}
 use lib.Dec.{eqb, ltb}
+use Rattle.model.specs.declared.types.Span.{Span}
 use Rattle.model.specs.Bytes.{le, digits}
-
--- a range of the file, as a reference names it
-pub record Span : Type 0 where
-  pub start : ℕ
-  pub size : ℕ
 
 abbrev pub span : ℕ → ℕ → Span
 span s n = record { start = s; size = n }

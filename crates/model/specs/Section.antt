@@ -4,10 +4,11 @@ use mathlib.Core.Bool.{cond}
 use mathlib.Core.List.{List, [], _∷_, _++_, map}
 use lib.Dec.{eqb}
 use lib.ListN.{take, getD}
-use Rattle.model.specs.References.{Span, span}
+use Rattle.model.specs.declared.types.Span.{Span}
+use Rattle.model.specs.declared.types.Entry.{Entry}
+use Rattle.model.specs.References.{span}
 use Rattle.model.specs.Headers.{Header}
 use Rattle.model.specs.Nodes.{Node}
-use Rattle.model.specs.LogFragments.{Entry}
 
 -- the finished log: its fragments up to the one with the last finished sentinel, the transactions without their sentinels,
 -- and how many entries of the last fragment are used, that sentinel included

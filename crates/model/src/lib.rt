@@ -1,3 +1,5 @@
+pub mod types;
+pub mod worked;
 // The definitions are in specs/. No code yet: two statements about a small file, on the contracts of functions that do nothing.
 ghost use mathlib.Core.Path.{_≡_};
 ghost use Rattle.model.specs.Faults.{done};

@@ -9,12 +9,13 @@ use borrow.Author.Needs.{needs}
 use lib.ListN.{length, getD}
 use Rattle.std.proofs.shelf.Lists.{places, same-lists, getD-default}
 use Rattle.std.proofs.shelf.Ways.{tells}
+use Rattle.model.specs.declared.types.Span.{Span}
 use Rattle.model.specs.Bytes.{le, piece, Same}
 use Rattle.model.specs.Faults.{Outcome, done}
-use Rattle.model.specs.References.{Span, start-width, size-width}
+use Rattle.model.specs.References.{start-width, size-width}
 use Rattle.model.specs.Nodes.{Node, size-bits, stp-bits, cb-bits, reference-width, node-at, bad-node}
 use Rattle.model.specs.OpenedLog.{Reading, log-entries}
 use Rattle.model.specs.OpenedLists.{NodePart, counted, nodes-at}
 
 pub le-same : (n : ℕ) (b c : List ℕ) (p : ℕ) → Same b c p (p + n) → le n b p ≡ le n c p
 unfolding le

@@ -11,15 +11,16 @@ use lib.ListN.{length}
 use Rattle.std.proofs.shelf.Ways.{tells}
 use Rattle.std.proofs.shelf.Tests.{cases-bool}
 use Rattle.std.proofs.shelf.Lists.{append-assoc, append-nil}
+use Rattle.model.specs.declared.types.Span.{Span}
+use Rattle.model.specs.declared.types.Entry.{Entry}
 use Rattle.model.specs.Bytes.{le}
 use Rattle.model.specs.Faults.{done}
-use Rattle.model.specs.References.{Span}
 use Rattle.model.specs.Nodes.{Node, node-at, hands-over, bad-node}
-use Rattle.model.specs.LogFragments.{Entry, entry-at, sentinel, entry-place}
+use Rattle.model.specs.LogFragments.{entry-at, sentinel, entry-place}
 use Rattle.model.specs.Section.{flat}
 use Rattle.model.specs.OpenedLog.{Reading, unfinished, log-entries}
 use Rattle.model.specs.OpenedLists.{counted, nodes-at}
 use Rattle.model.specs.Means.{entries-of, closed, Good, Nodes}
 
 -- a node that is not refused is good, and the other way round
 pub passes : (b : List ℕ) (stop p : ℕ) → false ≡ hands-over (le 4 b p) stop p → false ≡ bad-node (le 4 b p) stop p → Good b stop p (node-at b p)

@@ -6,12 +6,13 @@ use mathlib.Core.Bool.{true}
 use mathlib.Core.List.{List, [], _∷_}
 use native.Mathlib.Omega.{arith}
 use lib.ListN.{length}
+use Rattle.model.specs.declared.types.Span.{Span}
 use Rattle.model.specs.Bytes.{le, Same}
-use Rattle.model.specs.References.{Span, end-of, span-at}
+use Rattle.model.specs.References.{end-of, span-at}
 use Rattle.model.specs.Nodes.{Node, size-bits, reference-width, node-at, hands-over}
 use Rattle.model.specs.ListFragments.{nodes-from, nodes-to}
 use Rattle.model.specs.Means.{Good, Nodes, Spread, within, across}
-use Rattle.model.proofs.Frames.{le-in, node-within}
+use Rattle.meaning.proofs.Frames.{le-in, node-within}
 
 pub good-local : (b c : List ℕ) (stop p : ℕ) (n : Node) (hi : ℕ) → Same b c p hi → hi ≤ length b → hi ≤ length c → p + n .size ≤ hi → Good b stop p n → Good c stop p n
 good-local b c stop p n hi s x y h g =

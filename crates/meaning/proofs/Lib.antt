@@ -1,0 +1,13 @@
+pub mod Base
+pub mod ReadLog
+pub mod ReadList
+pub mod Members
+pub mod ReadQueue
+pub mod MeantOpens
+pub mod StandLog
+pub mod StandList
+pub mod StandQueue
+pub mod OpensMeans
+pub mod Frames
+pub mod Local
+pub mod Meant

@@ -1,0 +1,15 @@
+//! Values that definitions and code share.
+
+/// A range of the file, as a reference names it.
+#[derive(Clone, Copy, PartialEq, Eq, Debug)]
+pub struct Span {
+    pub start: u64,
+    pub size: u64,
+}
+
+/// An entry of the transaction log: 1 for a sentinel, which ends a transaction, else a list's ID; and a number.
+#[derive(Clone, Copy, PartialEq, Eq, Debug)]
+pub struct Entry {
+    pub source: u32,
+    pub number: u32,
+}
