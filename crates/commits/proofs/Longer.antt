@@ -1,0 +1,106 @@
+-- A file with more behind its end: data, or a new list.
+-- Assumes nothing.
+use Prim.Native.Nat.{ℕ, _+_, _^_, _<_, _≤_}
+use mathlib.Core.Path.{_≡_, sym, ap, _∙_, subst}
+use mathlib.Core.Logic.{_≢_}
+use mathlib.Core.List.{List, [], _∷_, _++_, map}
+use native.Mathlib.Omega.{arith}
+use lib.ListN.{length}
+use Rattle.std.specs.shelf.Lists.{All}
+use Rattle.std.proofs.shelf.Lists.{append-assoc, append-nil, length-append}
+use Rattle.model.specs.declared.types.Span.{Span}
+use Rattle.model.specs.Bytes.{written}
+use Rattle.model.specs.References.{span, end-of}
+use Rattle.model.specs.Headers.{header-span, Header}
+use Rattle.model.specs.Nodes.{Node, referring}
+use Rattle.model.specs.ListFragments.{nodes-to, new-fragment}
+use Rattle.model.specs.Section.{NodeList, list-fragments}
+use Rattle.model.specs.Means.{Apart, Pairwise, within, data-spans}
+use Rattle.commits.specs.Stored.{Stored}
+use Rattle.commits.specs.Around.{Around}
+use Rattle.commits.specs.Body.{Right, Body, up-to}
+use Rattle.commits.proofs.Sizes.{length-new-fragment}
+use Rattle.commits.proofs.Store.{length-written, stored-written, stored-front}
+use Rattle.commits.proofs.FragmentBack.{fragment-back}
+use Rattle.commits.proofs.Rows.{all-join, all-map, all-both, pair-between, flat-row}
+use Rattle.commits.proofs.PartKept.{part-kept, ahead-other}
+use Rattle.commits.proofs.NodeAdded.{Made, around-none, around-past}
+use Rattle.commits.proofs.Bodies.{all-by-end, past-apart, references}
+
+-- nothing of the old file is written: a fragment of no bytes
+all-apart : (fs : List Span) → All (Apart (span 0 0)) fs
+all-apart [] = tt
+all-apart (f ∷ fs) = ((λ i x y. omega (arith, x .1)), all-apart fs)
+
+rights-kept : (b c : List ℕ) (h h′ : Header) (ms : List NodeList) → Around b c (h .end) (span 0 0) 16 → h .end ≤ h′ .end → All (Right b h) ms → All (Right c h′) ms
+rights-kept b c h h′ ms o k r = all-map (Right b h) (Right c h′) ms
+    (λ m y. record { part = part-kept b c h h′ (span 0 0) 16 (m .id) (m .fragments) (m .nodes) (m .free) o k (ahead-other (span 0 0) 16 (m .fragments) (m .free) (all-apart (m .fragments))) (y .part); ends = y .ends }) r
+
+-- BODY, with any bytes behind its end
+pub body-longer : (b : List ℕ) (h : Header) (e : ℕ) (gs : List Span) (ls : List NodeList) (new : List ℕ) → Body b h gs ls → h .end + length new ≡ e → Body (written b (h .end) new) (up-to h e) gs ls
+body-longer b h e gs ls new d k =
+    let o = around-past b b (h .end) (span 0 0) 16 (h .end) new (omega arith) (d .whole) (around-none b (h .end) (span 0 0) 16 (omega arith) (d .whole)) in
+    record {
+      whole = omega (arith, length-written b (h .end) new (d .whole));
+      least = omega (arith, d .least);
+      lists = rights-kept b (written b (h .end) new) h (up-to h e) ls o (omega arith) (d .lists);
+      ids-differ = d .ids-differ;
+      log-inside = all-map (λ f. end-of f ≤ h .end) (λ f. end-of f ≤ e) gs (λ f x. omega arith) (d .log-inside);
+      apart = d .apart;
+      data-inside = all-map (λ r. end-of r ≤ h .end) (λ r. end-of r ≤ e) (data-spans ls) (λ r x. omega arith) (d .data-inside);
+      data-apart = d .data-apart;
+    }
+
+-- a new list, of one node in one fragment
+abbrev pub new-list : ℕ → ℕ → Node → ℕ → NodeList
+new-list id start n q = record { id = id; fragments = span start 1024 ∷ []; nodes = n ∷ []; free = q }
+
+new-right : (b : List ℕ) (h : Header) (id start : ℕ) (new pad : List ℕ) (n : ℕ → Node) → Made new n → start + 1024 ≤ h .end → 16 ≤ id → id < 2 ^ 32
+    → Stored b start (new-fragment id 0 new ++ pad) → Right b h (new-list id start (n (start + 16)) (start + 16 + length new))
+new-right b h id start new pad n m e r i s =
+    let (mk, st) = fragment-back b start id 0 new i (omega arith) (m .short) (stored-front b start (new-fragment id 0 new) pad s) in
+    let sh = m .short in
+    record {
+      part = record {
+        inside = ((omega arith, omega arith), tt);
+        marks = (mk, tt);
+        real = r;
+        spread = within (m .good b (nodes-to (span start 1024)) (start + 16) st (omega arith), ap (λ z. start + 16 + z) (m .size (start + 16)));
+      };
+      ends = omega (arith, m .some);
+    }
+
+-- BODY, with a new list behind its end
+pub body-list : (b : List ℕ) (h : Header) (e : ℕ) (gs : List Span) (ls : List NodeList) (id : ℕ) (new pad : List ℕ) (n : ℕ → Node)
+    → Made new n → Body b h gs ls → h .end + 1024 + length pad ≡ e → 16 ≤ id → id < 2 ^ 32 → All (λ l. l .id ≢ id) ls → referring 1 (n (h .end + 16) ∷ []) ≡ []
+    → Body (written b (h .end) (new-fragment id 0 new ++ pad)) (up-to h e) gs (ls ++ (new-list id (h .end) (n (h .end + 16)) (h .end + 16 + length new) ∷ []))
+body-list b h e gs ls id new pad n m d k r i a w =
+    let E = h .end in
+    let l : NodeList = new-list id E (n (E + 16)) (E + 16 + length new) in
+    let fresh : Span = span E 1024 in
+    let piece : List ℕ = new-fragment id 0 new ++ pad in
+    let c : List ℕ = written b E piece in
+    let lp : length piece ≡ 1024 + length pad = length-append (new-fragment id 0 new) pad ∙ omega (arith, length-new-fragment id 0 new (m .short)) in
+    let s : Stored c E piece = stored-written b E piece (d .whole) in
+    let f : Body c (up-to h e) gs ls = body-longer b h e gs ls piece d (omega arith) in
+    let F : List Span = header-span ∷ (gs ++ list-fragments ls) in
+    let by-end : All (λ f. end-of f ≤ E) F = all-by-end b h gs ls d in
+    let x : header-span ∷ (gs ++ list-fragments (ls ++ (l ∷ []))) ≡ F ++ (fresh ∷ [])
+        = ap (λ z. header-span ∷ z) (ap (λ z. gs ++ z) (flat-row (λ (m : NodeList). m .fragments) ls (l ∷ [])) ∙ sym (append-assoc gs (list-fragments ls) (fresh ∷ []))) in
+    let y : data-spans (ls ++ (l ∷ [])) ≡ data-spans ls
+        = flat-row references ls (l ∷ []) ∙ ap (λ (z : List Node). data-spans ls ++ (map (λ m. m .reference) z ++ [])) w ∙ append-nil (data-spans ls) in
+    let both : All (λ r. (end-of r ≤ E) × All (Apart r) F) (data-spans ls)
+        = all-both (λ r. end-of r ≤ E) (λ r. All (Apart r) F) (λ r. (end-of r ≤ E) × All (Apart r) F) (data-spans ls) (λ r x y. (x, y)) (d .data-inside) (d .data-apart) in
+    record {
+      whole = f .whole;
+      least = f .least;
+      lists = all-join (Right c (up-to h e)) ls (l ∷ []) (f .lists) (new-right c (up-to h e) id E new pad n m (omega arith) r i s, tt);
+      ids-differ = pair-between (λ l m. l .id ≢ m .id) ls l [] (subst (λ z. Pairwise (λ l m. l .id ≢ m .id) z) (sym (append-nil ls)) (d .ids-differ)) a tt;
+      log-inside = f .log-inside;
+      apart = subst (λ z. Pairwise Apart z) (sym x) (pair-between Apart F fresh [] (subst (λ z. Pairwise Apart z) (sym (append-nil F)) (d .apart))
+          (all-map (λ f. end-of f ≤ E) (λ x. Apart x fresh) F (λ x y. past-apart E fresh x (omega arith) y) by-end) tt);
+      data-inside = subst (λ z. All (λ r. end-of r ≤ e) z) (sym y) (f .data-inside);
+      data-apart = subst (λ z. All (λ r. All (Apart r) (header-span ∷ (gs ++ list-fragments (ls ++ (l ∷ []))))) z) (sym y)
+          (all-map (λ r. (end-of r ≤ E) × All (Apart r) F) (λ r. All (Apart r) (header-span ∷ (gs ++ list-fragments (ls ++ (l ∷ []))))) (data-spans ls)
+          (λ r z. subst (λ v. All (Apart r) v) (sym x) (all-join (Apart r) F (fresh ∷ []) (z .1) (past-apart E fresh r (omega arith) (z .0), tt))) both);
+    }
