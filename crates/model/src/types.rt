@@ -13,3 +13,12 @@ pub struct Entry {
     pub source: u32,
     pub number: u32,
 }
+
+/// What a refusal tells: its number, the layer that refuses, the place of what is wrong, and the ID of the list concerned, else 0.
+#[derive(Clone, Copy, PartialEq, Eq, Debug)]
+pub struct Fault {
+    pub number: u32,
+    pub layer: u32,
+    pub place: u64,
+    pub list: u32,
+}
