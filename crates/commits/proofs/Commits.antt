@@ -11,9 +11,10 @@ use Rattle.std.proofs.shelf.Lists.{ext-getD, length-take, getD-take}
 use Rattle.std.proofs.shelf.Tests.{cases-lt}
 use Rattle.model.specs.declared.types.Span.{Span}
 use Rattle.model.specs.declared.types.Entry.{Entry}
+use Rattle.model.specs.declared.types.Header.{Header}
 use Rattle.model.specs.Bytes.{Write, put, written, applied, Same}
 use Rattle.model.specs.References.{span, end-of}
-use Rattle.model.specs.Headers.{header-span, Header, header-at}
+use Rattle.model.specs.Headers.{header-span, header-at}
 use Rattle.model.specs.LogFragments.{entry-bytes, entries-in, entry-place}
 use Rattle.model.specs.Section.{Log, NodeList, Section, last-of, count-in, list-fragments}
 use Rattle.model.specs.Means.{Apart, Pairwise, Inside, Headed, entries-of, closed, Logs, Numbered, Stands, data-spans, Means}

@@ -9,9 +9,10 @@ use Rattle.std.specs.shelf.Lists.{All}
 use Rattle.std.proofs.shelf.Lists.{append-assoc, length-append}
 use Rattle.model.specs.declared.types.Span.{Span}
 use Rattle.model.specs.declared.types.Entry.{Entry}
+use Rattle.model.specs.declared.types.Header.{Header}
 use Rattle.model.specs.Bytes.{applied}
 use Rattle.model.specs.References.{span, end-of, span-at}
-use Rattle.model.specs.Headers.{header-span, Header}
+use Rattle.model.specs.Headers.{header-span}
 use Rattle.model.specs.LogFragments.{entries-in, log-next}
 use Rattle.model.specs.Section.{NodeList, Section, last-of, count-in, list-fragments}
 use Rattle.model.specs.Means.{Apart, Pairwise, Headed, entries-of, closed, Logs, data-spans, Means}

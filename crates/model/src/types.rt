@@ -22,3 +22,22 @@ pub struct Fault {
     pub place: u64,
     pub list: u32,
 }
+
+/// The header's fields that are used, by the format's own names beside each.
+#[derive(Clone, Copy, Debug)]
+pub struct Header {
+    /// cTransactionsInLog
+    pub count: u32,
+    /// cbExpectedFileLength
+    pub end: u64,
+    /// nFileVersionGeneration
+    pub generation: u64,
+    /// guidFileVersion
+    pub version: [u8; 16],
+    /// fcrHashedChunkList
+    pub hashed: Span,
+    /// fcrTransactionLog
+    pub log: Span,
+    /// fcrFileNodeListRoot
+    pub root: Span,
+}

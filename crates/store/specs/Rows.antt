@@ -6,7 +6,7 @@ use mathlib.Core.List.{List, [], _∷_, _++_}
 use lib.ListN.{length, drop}
 use Rattle.std.specs.declared.result.Result.{Result}
 use Rattle.std.specs.declared.result.Result.the-variants.{Ok, Err}
-use Rattle.model.specs.Bytes.{le, piece, Write, written}
+use Rattle.model.specs.Bytes.{piece, Write, written}
 use Rattle.model.specs.Faults.{fault}
 use Rattle.store.specs.declared.base.StoreFault.{StoreFault}
 use Rattle.store.specs.Refusals.{told}
@@ -25,11 +25,6 @@ Writes row most p new after (Err e) = (p ≤ length row → p + length new ≤ m
 abbrev pub if-done : {T : Type 0} → Result T StoreFault → Write → List Write
 if-done (Ok x) w = w ∷ []
 if-done (Err e) w = []
-
--- the number of n bytes at p is had exactly when they lie in the row
-abbrev pub Number : ℕ → List ℕ → ℕ → Result ℕ StoreFault → Type 0
-Number n row p (Ok v) = (p + n ≤ length row) × (v ≡ le n row p)
-Number n row p (Err e) = (p + n ≤ length row → ⊥) × (told e ≡ fault 27 6 0 0)
 
 -- bytes written and read back: done exactly when the write is, and the buffer takes them
 abbrev pub Echoes : {T : Type 0} → List ℕ → ℕ → ℕ → List ℕ → List ℕ → List ℕ → List ℕ → Result T StoreFault → Type 0

@@ -29,14 +29,6 @@ impl<S: Store> Cover<S> {
         }
         Ok(Cover { inner, blocks })
     }
-
-    /// The store behind the cover.
-    pub fn into_inner(self) -> S
-        ensures { λ r. ⌜ r ≡ self .inner ⌝ }
-    {
-        let Cover { inner, blocks: _ } = self;
-        inner
-    }
 }
 
 pub impl<S: Store> Store for Cover<S> as CoverStore {

@@ -2,4 +2,5 @@
 pub mod base;
 pub mod card_store;
 pub mod cover_store;
+pub mod echoes;
 pub mod flat_store;
