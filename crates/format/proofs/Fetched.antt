@@ -6,7 +6,7 @@ use mathlib.Core.Logic.{⊎-elim, inl, inr}
 use lib.ListN.{length, take, drop, getD, set}
 use native.Mathlib.Nat.{add-zero, zero-add, add-assoc}
 use native.Mathlib.Omega.{arith}
-use Rattle.std.proofs.shelf.Lists.{places, getD-past, getD-set-same, getD-set-other}
+use Rattle.std.proofs.shelf.Lists.{places, ext-getD, getD-past, getD-set-same, getD-set-other}
 use Rattle.std.proofs.shelf.Tests.{cases-lt, cases-eq}
 use Rattle.std.specs.declared.result.Result.{Result}
 use Rattle.std.specs.declared.result.Result.the-variants.{Ok, Err}
@@ -56,3 +56,10 @@ zero-more xs lo i l z k a b =
     (λ (e : k ≡ i). ap (λ j. getD (set xs i 0) j 0) e ∙ getD-set-same xs i 0 0 l)
     (λ (ne : k ≡ i → ⊥). getD-set-other xs i k 0 0 ne ∙ z k a (omega arith))
     (cases-eq k i)
+
+-- a buffer that is a window into a row is a piece of it, where the row reaches so far
+pub piece-window : (row buffer : List ℕ) (p n : ℕ) → Window row p buffer → length buffer ≡ n → p + n ≤ length row → buffer ≡ piece row p n
+unfolding piece
+piece-window row buffer p n w l h =
+    let m : length (take n (drop p row)) ≡ n = grind (arith, places) in
+    ext-getD 0 buffer (take n (drop p row)) (l ∙ sym m) (λ i b. w i b ∙ grind (arith, places))
