@@ -1,0 +1,4 @@
+pub mod Linear
+pub mod Reflected
+pub mod Table
+pub mod Turns
