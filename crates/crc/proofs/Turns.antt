@@ -7,7 +7,7 @@ use mathlib.Core.List.{List, [], _∷_}
 use lib.ListN.{length, getD, drop}
 use lib.Bits.{bitXor, xor-assoc, xor-zero-r}
 use Rattle.std.proofs.shelf.Lists.{drop-more, at-drop-more, at-drop-all}
-use Rattle.model.specs.Crc.{Scheme, steps, fed, run, crc-32}
+use Rattle.model.specs.Crc.{Scheme, steps, fed, run, crcOf, crc-32}
 use Rattle.crc.proofs.Reflected.{run-low}
 
 pub run-none : (s : Scheme) (r : ℕ) (bs : List ℕ) (i : ℕ) → length bs ≤ i → run s r (drop i bs) ≡ r
@@ -58,3 +58,8 @@ eight-turn r bs i h small l e₀ e₁ e₂ e₃ e₄ e₅ e₆ e₇ =
     (ap (λ x. run crc-32 x (drop (i + 8) bs))
     (sym (run-eight r _ _ _ _ _ _ _ _ h (small i) (small (i + 1)) (small (i + 2)) (small (i + 3)) (small (i + 4)) (small (i + 5)) (small (i + 6)) (small (i + 7))))
     ∙ sym (run-turn crc-32 r bs i l))
+
+-- the check of a row: from the first register over all the bytes, and the last added
+pub crc-of : (s : Scheme) (bs : List ℕ) (first register check : ℕ) → first ≡ s .first → register ≡ run s first bs → check ≡ bitXor register (s .last) → check ≡ crcOf s bs
+unfolding crcOf
+crc-of s bs first register check f r e = e ∙ ap (λ x. bitXor x (s .last)) (r ∙ ap (λ x. run s x bs) f)

@@ -1,10 +1,6 @@
-use mathlib.Core.Path.{ap, _∙_}
-use lib.Bits.{bitXor}
-use Rattle.model.specs.Crc.{run, crcOf, crc-32}
+use borrow.Author.Needs.{needs}
+use Rattle.crc.proofs.Turns.{crc-of}
 use Rattle.crc.proofs.crc32.Needs as need
 
 pub returns : need.returns
-unfolding crcOf
-returns c =
-    c .finish .ensures
-    ∙ ap (λ r. bitXor r (crc-32 .last)) (c .update-slice .ensures ∙ ap (λ r. run crc-32 r (c .args .bytes .now)) (c .new-crc .ensures))
+returns c = search (needs, crc-of)

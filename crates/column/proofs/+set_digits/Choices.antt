@@ -1,0 +1,4 @@
+use Rattle.column.proofs.+set_digits.Given as given
+
+abbrev pub μ-set-digits : given.MeasureT-set-digits
+μ-set-digits l = l .n

@@ -1,0 +1,6 @@
+use borrow.Author.Needs.{needs}
+use Rattle.column.proofs.Steps.{filled}
+use Rattle.column.proofs.justified.Needs as need
+
+pub returns : need.returns
+returns c = search (needs, filled)
