@@ -8,4 +8,4 @@ use Rattle.crc.proofs.after_byte.Needs as need
 pub returns : need.returns
 returns c =
     let r = c .args .register in
-    ap (λ x. bitXor x (r / 256)) (c .spread .ensures) ∙ sym (fed-low r (c .args .byte) (omega arith))
+    ap (λ x. bitXor x (r / 256)) (c .spread .ensures) ∙ sym (fed-low _ _ _ r (c .args .byte) (omega arith))

@@ -3,7 +3,7 @@ use mathlib.Core.Path.{sym, ap, _∙_}
 use native.Mathlib.Omega.{arith}
 use lib.ListN.{drop}
 use Rattle.model.specs.Crc.{run, crc-32}
-use Rattle.crc.proofs.Turns.{run-none, run-one}
+use Rattle.crc.proofs.Rows.{run-none, run-one}
 use Rattle.crc.proofs.after_rest.Needs as need
 
 pub loop-at-again : need.loop-at-again

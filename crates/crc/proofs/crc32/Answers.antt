@@ -1,5 +1,5 @@
 use borrow.Author.Needs.{needs}
-use Rattle.crc.proofs.Turns.{crc-of}
+use Rattle.crc.proofs.Rows.{crc-of}
 use Rattle.crc.proofs.crc32.Needs as need
 
 pub returns : need.returns
