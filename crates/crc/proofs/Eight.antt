@@ -4,10 +4,17 @@ use Prim.Native.Nat.{ℕ, _+_, _/_, _%_, _^_, _<_, _≤_}
 use native.Mathlib.Omega.{arith}
 use mathlib.Core.List.{List, [], _∷_}
 use lib.ListN.{length, getD, drop}
-use lib.Bits.{bitXor, xor-assoc, xor-zero-r}
+use lib.Bits.{bitXor, xor-assoc, xor-comm, xor-zero-r}
 use Rattle.model.specs.Crc.{Scheme, steps, run}
 use Rattle.crc.proofs.Reflected.{reflected, run-low}
 use Rattle.crc.proofs.Rows.{run-end, run-turn}
+
+-- the last four first
+last-first : (x₀ x₁ x₂ x₃ x₄ x₅ x₆ x₇ : ℕ)
+    → bitXor (bitXor (bitXor (bitXor (bitXor (bitXor (bitXor x₄ x₅) x₆) x₇) x₀) x₁) x₂) x₃
+    ≡ bitXor x₀ (bitXor x₁ (bitXor x₂ (bitXor x₃ (bitXor x₄ (bitXor x₅ (bitXor x₆ x₇))))))
+last-first x₀ x₁ x₂ x₃ x₄ x₅ x₆ x₇ =
+    simp xor-assoc (simp xor-assoc at (xor-comm (bitXor x₄ (bitXor x₅ (bitXor x₆ x₇))) (bitXor x₀ (bitXor x₁ (bitXor x₂ x₃)))))
 
 module _ (p f l : ℕ) where
   abbrev s : Scheme
@@ -33,9 +40,11 @@ module _ (p f l : ℕ) where
       → x₂ ≡ steps s 48 (bitXor (r / 2 ^ 16 % 256) (getD bs (i + 2) 0)) → x₃ ≡ steps s 40 (bitXor (r / 2 ^ 24 % 256) (getD bs (i + 3) 0))
       → x₄ ≡ steps s 32 (getD bs (i + 4) 0) → x₅ ≡ steps s 24 (getD bs (i + 5) 0)
       → x₆ ≡ steps s 16 (getD bs (i + 6) 0) → x₇ ≡ steps s 8 (getD bs (i + 7) 0)
-      → run s (bitXor (bitXor (bitXor (bitXor (bitXor (bitXor (bitXor x₀ x₁) x₂) x₃) x₄) x₅) x₆) x₇) (drop (i + 8) bs) ≡ run s r (drop i bs)
-  eight-turn r bs i h small z e₀ e₁ e₂ e₃ e₄ e₅ e₆ e₇ =
-      simp (xor-assoc, e₀, e₁, e₂, e₃, e₄, e₅, e₆, e₇)
+      → run s (bitXor (bitXor (bitXor (bitXor (bitXor (bitXor (bitXor x₄ x₅) x₆) x₇) x₀) x₁) x₂) x₃) (drop (i + 8) bs) ≡ run s r (drop i bs)
+  eight-turn r bs i h small z {x₀} {x₁} {x₂} {x₃} {x₄} {x₅} {x₆} {x₇} e₀ e₁ e₂ e₃ e₄ e₅ e₆ e₇ =
+      let turn : run s (bitXor x₀ (bitXor x₁ (bitXor x₂ (bitXor x₃ (bitXor x₄ (bitXor x₅ (bitXor x₆ x₇))))))) (drop (i + 8) bs) ≡ run s r (drop i bs)
+      = simp (e₀, e₁, e₂, e₃, e₄, e₅, e₆, e₇)
       (ap (λ x. run s x (drop (i + 8) bs))
       (sym (run-eight r _ _ _ _ _ _ _ _ h (small i) (small (i + 1)) (small (i + 2)) (small (i + 3)) (small (i + 4)) (small (i + 5)) (small (i + 6)) (small (i + 7))))
-      ∙ sym (run-turn s r bs i z))
+      ∙ sym (run-turn s r bs i z)) in
+      ap (λ x. run s x (drop (i + 8) bs)) (last-first x₀ x₁ x₂ x₃ x₄ x₅ x₆ x₇) ∙ turn

@@ -77,18 +77,19 @@ fn after_byte(register: u32, byte: u8) -> u32
 }
 
 // The register has moved out after four of the eight bytes, so that the last four meet nothing.
+// They come first here, since they need not wait for the register.
 fn after_eight(register: u32, bytes: &[u8], at: usize) -> u32
     requires { ⌜ at + 8 ≤ length (now bytes) ⌝ }
     ensures { λ r. ⌜ run crc-32 r (drop (at + 8) (now (bytes .entry))) ≡ run crc-32 register (drop at (now (bytes .entry))) ⌝ }
 {
-    spread(register, bytes[at], 7)
-        ^ spread(register >> 8, bytes[at + 1], 6)
-        ^ spread(register >> 16, bytes[at + 2], 5)
-        ^ spread(register >> 24, bytes[at + 3], 4)
-        ^ spread(0, bytes[at + 4], 3)
+    spread(0, bytes[at + 4], 3)
         ^ spread(0, bytes[at + 5], 2)
         ^ spread(0, bytes[at + 6], 1)
         ^ spread(0, bytes[at + 7], 0)
+        ^ spread(register, bytes[at], 7)
+        ^ spread(register >> 8, bytes[at + 1], 6)
+        ^ spread(register >> 16, bytes[at + 2], 5)
+        ^ spread(register >> 24, bytes[at + 3], 4)
 }
 
 // The bytes that are left of a slice, one by one.

@@ -1,3 +1,4 @@
+-- One digit alone, or one digit behind those of n / 10.
 use native.Mathlib.Omega.{arith}
 use Rattle.column.proofs.Steps.{down, alone, alone-size, behind, behind-size}
 use Rattle.column.proofs.+set_digits.Needs as need

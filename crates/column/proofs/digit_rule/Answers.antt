@@ -1,3 +1,4 @@
+-- Both parts of the rule.
 use Rattle.column.proofs.Digits.{digits-one, digits-more}
 use Rattle.column.proofs.digit_rule.Needs as need
 

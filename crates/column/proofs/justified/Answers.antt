@@ -1,3 +1,4 @@
+-- Spaces, with all digits set at the end.
 use borrow.Author.Needs.{needs}
 use Rattle.column.proofs.Steps.{filled}
 use Rattle.column.proofs.justified.Needs as need

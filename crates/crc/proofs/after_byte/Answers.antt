@@ -1,3 +1,4 @@
+-- A byte comes in.
 use Prim.Native.Nat.{_/_}
 use mathlib.Core.Path.{sym, ap, _∙_}
 use native.Mathlib.Omega.{arith}

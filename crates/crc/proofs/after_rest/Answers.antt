@@ -1,3 +1,4 @@
+-- A byte of the rest comes in, until none is left.
 use Prim.Native.Nat.{_+_}
 use mathlib.Core.Path.{sym, ap, _∙_}
 use native.Mathlib.Omega.{arith}

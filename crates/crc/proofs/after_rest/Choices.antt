@@ -1,3 +1,4 @@
+-- What the loop over the rest keeps.
 use mathlib.Core.Path.{_≡_}
 use lib.ListN.{drop}
 use Rattle.model.specs.Crc.{run, crc-32}

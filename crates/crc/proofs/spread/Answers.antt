@@ -1,3 +1,4 @@
+-- An entry of the tables is what their rule says.
 use Prim.Native.Nat.{ℕ, _<_, _%_, _+_, _*_}
 use mathlib.Core.Path.{ap, _∙_}
 use native.Mathlib.Omega.{arith}

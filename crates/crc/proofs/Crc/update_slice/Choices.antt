@@ -1,3 +1,4 @@
+-- What the loop over turns of eight bytes keeps, and why it ends.
 use Prim.Native.Nat.{_-_, _≤_}
 use mathlib.Core.Path.{_≡_}
 use lib.ListN.{length, drop}
