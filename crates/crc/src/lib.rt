@@ -31,7 +31,7 @@ impl Crc {
         self.register = after_byte(self.register, byte);
     }
 
-    /// The bytes of a slice more.
+    /// The bytes of a slice more, eight a turn.
     pub fn update_slice(&mut self, bytes: &[u8])
         ensures { λ _. ⌜ now (self .exit) .register ≡ run crc-32 (now (self .entry) .register) (now (bytes .entry)) ⌝ }
     {
@@ -61,7 +61,7 @@ pub fn crc32(bytes: &[u8]) -> u32
     crc.finish()
 }
 
-// What the lowest byte of the register and a byte that meets it there make, with `zeros` more bytes behind.
+// What becomes of the register's lowest byte where a byte meets it there, and `zeros` zero bytes follow.
 fn spread(register: u32, byte: u8, zeros: usize) -> u32
     requires { ⌜ zeros < 8 ⌝ }
     ensures { λ r. ⌜ r ≡ steps crc-32 (8 + 8 * zeros) (bitXor (register % 256) byte) ⌝ }
