@@ -4,7 +4,7 @@
 #[derive(Clone, Copy)]
 pub struct Change {
     pub list: u32,
-    pub transaction: u32,
+    pub transaction: u64,
     pub count: u32,
     pub before: usize,
 }

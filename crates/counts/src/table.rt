@@ -1,4 +1,6 @@
 //! The changes in the order of the log, and the lists in the order of their IDs.
+ghost use Prim.Native.Nat.{_≤_};
+ghost use Rattle.std.specs.Of.Vec.{vec-len};
 use crate::changes::Change;
 use crate::changes::Counted;
 use std::alloc::AllocError;
@@ -9,6 +11,7 @@ pub struct Counts {
     changes: Vec<Change>,
     lists: Vec<Counted>,
     room: usize,
+    finished: u64,
 }
 
 impl Counts {
@@ -18,6 +21,7 @@ impl Counts {
             changes: Vec::with_capacity(heap, room)?,
             lists: Vec::with_capacity(heap, room)?,
             room,
+            finished: 0,
         })
     }
 
@@ -25,10 +29,23 @@ impl Counts {
     pub fn clear(&mut self) {
         self.changes.clear();
         self.lists.clear();
+        self.finished = 0;
+    }
+
+    /// One transaction more is finished.
+    pub fn finish(&mut self) {
+        self.finished = self.finished.saturating_add(1);
+    }
+
+    /// How many transactions are finished.
+    pub fn finished(&self) -> u64 {
+        self.finished
     }
 
     // The index of the first list whose ID is not below `list`.
-    fn place_of(&self, list: u32) -> usize {
+    fn place_of(&self, list: u32) -> usize
+        ensures { λ r. ⌜ r ≤ vec-len (now (self .entry) .lists) ⌝ }
+    {
         let mut low = 0;
         let mut high = self.lists.len();
         while low < high {
@@ -66,7 +83,7 @@ impl Counts {
         let mut at = self.newest(list);
         while at > 0 && at <= self.changes.len() {
             let change = self.changes[at - 1];
-            if change.transaction <= k {
+            if change.transaction <= k as u64 {
                 return change.count;
             }
             if change.before >= at {
@@ -86,12 +103,13 @@ impl Counts {
     }
 
     /// Notes a list's new count; says whether there was room.
-    pub fn note(&mut self, transaction: u32, list: u32, count: u32) -> bool {
+    pub fn note(&mut self, list: u32, count: u32) -> bool {
         if self.changes.len() >= self.room {
             return false;
         }
         let before = self.newest(list);
         let newest = self.changes.len();
+        let transaction = self.finished.saturating_add(1);
         if self.changes.push(Change { list, transaction, count, before }).is_err() {
             return false;
         }

@@ -1,0 +1,145 @@
+//! The room that opening works in: reserved at once, so that opening itself never wants memory.
+ghost use mathlib.Core.Path.{_≡_};
+ghost use Prim.Native.Nat.{_+_, _≤_, _<_};
+ghost use lib.Dec.{ltb};
+ghost use Rattle.model.specs.Headers.{header-span};
+ghost use Rattle.model.specs.References.{share};
+ghost use Rattle.model.specs.OpenedLog.{outside};
+ghost use Rattle.std.specs.Of.Vec.{vec-items, vec-len, vec-cap};
+ghost use Rattle.std.specs.Results.{Cases};
+use counts::table::Counts;
+use format::references::is_absent;
+use model::types::Span;
+use ranges::Ranges;
+use std::alloc::AllocError;
+use std::alloc::Global;
+
+/// At most so many fragments, the log's among them.
+pub const MOST_FRAGMENTS: usize = 2048;
+
+/// At most so many lists.
+pub const MOST_LISTS: usize = 1024;
+
+// One more than there may be lists: the list after the last is named and then refused, and no later one is ever reached.
+const MOST_NAMED: usize = 1025;
+
+/// A list: its ID, where its fragments stand among all and how many they are, its count of nodes, and the place behind the last of them.
+#[derive(Clone, Copy)]
+pub struct Row {
+    pub id: u32,
+    pub first: usize,
+    pub fragments: usize,
+    pub nodes: u32,
+    pub free: u64,
+}
+
+/// A reference to a list, with the place of its field.
+#[derive(Clone, Copy)]
+pub(crate) struct Named {
+    pub(crate) field: u64,
+    pub(crate) span: Span,
+}
+
+/// Why a fragment cannot stand where its reference says.
+#[derive(Clone, Copy)]
+pub(crate) enum Misplaced {
+    Outside,
+    Full,
+    Overlap,
+}
+
+/// The tables of an opened file.
+#[derive(Drop)]
+pub struct Room {
+    pub(crate) counts: Counts,
+    pub(crate) ranges: Ranges,
+    pub(crate) fragments: Vec<Span>,
+    pub(crate) lists: Vec<Row>,
+    pub(crate) queue: Vec<Named>,
+    ghost fragments_room: { 2048 ≤ vec-cap fragments },
+    ghost lists_room: { 1024 ≤ vec-cap lists },
+    ghost queue_room: { 1025 ≤ vec-cap queue },
+}
+
+impl Room {
+    /// Room for a file whose finished log counts lists at most `changes` times.
+    pub fn new(heap: Global, changes: usize) -> Result<Room, AllocError> {
+        Ok(Room {
+            counts: Counts::new(heap, changes)?,
+            ranges: Ranges::new(heap)?,
+            fragments: Vec::with_capacity(heap, MOST_FRAGMENTS)?,
+            lists: Vec::with_capacity(heap, MOST_LISTS)?,
+            queue: Vec::with_capacity(heap, MOST_NAMED)?,
+        })
+    }
+
+    pub(crate) fn clear(&mut self) {
+        self.counts.clear();
+        self.ranges.clear();
+        self.fragments.clear();
+        self.lists.clear();
+        self.queue.clear();
+    }
+
+    // Takes a fragment in, unless it is outside the file, one too many, or shares a byte with the header or another; in this order.
+    pub(crate) fn admit(&mut self, least: u64, end: u64, fragment: Span) -> Result<(), Misplaced>
+        ensures { λ r. ⌜ Cases r (λ _. (least ≤ fragment .size) × (fragment .start + fragment .size ≤ end)) (λ _. Unit {0}) ⌝ }
+    {
+        if is_outside(least, end, fragment) {
+            return Err(Misplaced::Outside);
+        }
+        if self.fragments.len() >= MOST_FRAGMENTS {
+            return Err(Misplaced::Full);
+        }
+        if is_in_header(fragment) || !self.ranges.insert(fragment) {
+            return Err(Misplaced::Overlap);
+        }
+        self.fragments.push_reserved(fragment);
+        Ok(())
+    }
+
+    // Names a list behind all that were named before it.
+    pub(crate) fn name(&mut self, field: u64, span: Span) {
+        if self.queue.len() < MOST_NAMED {
+            self.queue.push_reserved(Named { field, span });
+        }
+    }
+
+    // Whether a list with this ID was read.
+    pub(crate) fn has_list(&self, id: u32) -> bool {
+        for row in &self.lists {
+            if row.id == id {
+                return true;
+            }
+        }
+        false
+    }
+
+    // One list more; the caller has seen that there is room.
+    pub(crate) fn add_list(&mut self, row: Row) {
+        if self.lists.len() < MOST_LISTS {
+            self.lists.push_reserved(row);
+        }
+    }
+}
+
+// Whether a fragment's reference is absent, its size under the least one, or its end past the file's.
+pub(crate) fn is_outside(least: u64, end: u64, fragment: Span) -> bool
+    ensures { λ r. ⌜ r ≡ outside least end fragment ⌝ }
+{
+    is_absent(fragment) || fragment.size < least || passes(end, fragment)
+}
+
+// Whether a range ends past `end`; no sum is made, since it may pass 2^64.
+pub(crate) fn passes(end: u64, span: Span) -> bool
+    ensures { λ r. ⌜ r ≡ ltb end (span .start + span .size) ⌝ }
+{
+    span.size > end || span.start > end - span.size
+}
+
+// Whether a range shares a byte with the header.
+pub(crate) fn is_in_header(span: Span) -> bool
+    ensures { λ r. ⌜ r ≡ share span header-span ⌝ }
+{
+    span.size > 0 && span.start < 1024
+}
