@@ -3,37 +3,42 @@
 use Prim.Native.Nat.{ℕ, _+_, _-_, _%_, _^_, _<_, _≤_}
 use mathlib.Core.Path.{_≡_, refl, sym, ap, _∙_, subst}
 use mathlib.Core.Logic.{_≢_, inl, inr}
-use mathlib.Core.Bool.{true, _&&_}
+use mathlib.Core.Bool.{true, false, cond, _&&_}
 use mathlib.Core.List.{List, [], _∷_, _++_, map}
 use native.Mathlib.Omega.{arith}
 use lib.Dec.{eqb}
 use lib.ListN.{length, replicate}
 use Rattle.std.specs.shelf.Lists.{All}
+use Rattle.std.specs.declared.option.Option.the-variants.{Some, None}
 use Rattle.std.proofs.shelf.Lists.{append-assoc, append-nil, length-append, length-replicate, map-append}
 use Rattle.std.proofs.shelf.Tests.{cases-bool}
+use Rattle.std.proofs.shelf.Ways.{tells}
 use Rattle.model.specs.declared.types.Span.{Span}
-use Rattle.model.specs.Bytes.{written, applied, behind}
+use Rattle.model.specs.Bytes.{piece, written, applied, behind}
 use Rattle.model.specs.References.{span, end-of, present}
 use Rattle.model.specs.Headers.{header-span, Header}
 use Rattle.model.specs.Nodes.{Node, plain-node, referring-node, field-of, referring}
 use Rattle.model.specs.ListFragments.{new-fragment}
 use Rattle.model.specs.Section.{NodeList, Section, list-fragments}
-use Rattle.model.specs.OpenedLists.{Named, named-by}
-use Rattle.model.specs.Means.{Apart, Headed, Logs}
-use Rattle.model.specs.Layouts.{plain, with-data, branch, Tail, tail, Layout, tail-of, member, touch, find-tail, ending-at, more-fragments, more-lists}
-use Rattle.model.specs.Saving.{at-end, with-node, planned}
+use Rattle.model.specs.OpenedLists.{taken, Named, named-by}
+use Rattle.model.specs.Means.{Apart, Headed, Logs, data-spans}
+use Rattle.model.specs.Looks.{nodes-of}
+use Rattle.model.specs.Layouts.{Add, plain, with-data, branch, Tail, tail, Layout, tail-of, member, touch, find-tail, ending-at, more-fragments, more-lists}
+use Rattle.model.specs.Saving.{Plan, at-end, with-node, planned}
+use Rattle.model.specs.Contents.{Content, content-of, holds, saved-by}
 use Rattle.commits.specs.Body.{Right, Body, Tied, up-to}
 use Rattle.commits.specs.Laid.{Laid}
 use Rattle.commits.proofs.Sizes.{length-new-fragment}
-use Rattle.commits.proofs.Rows.{all-front, all-join, all-map, flat-row}
+use Rattle.commits.proofs.Rows.{all-front, all-join, all-map, all-both, flat-row}
 use Rattle.commits.proofs.NodeBack.{Fair, plain-of, referring-of}
 use Rattle.commits.proofs.NodeAdded.{Made, plain-made, referring-made}
 use Rattle.commits.proofs.Bodies.{Kept, Data-fits, referring-row, all-by-end, past-apart}
 use Rattle.commits.proofs.Longer.{body-longer, body-list, new-list}
 use Rattle.commits.proofs.Ties.{tied-header, tied-push, tied-branch}
-use Rattle.commits.proofs.Store.{same-written}
+use Rattle.commits.proofs.Store.{length-written, same-written, stored-written, stored-front, piece-stored}
 use Rattle.commits.proofs.Commits.{headed-same, logs-same}
-use Rattle.commits.proofs.Layouts.{found, Addable, node-pushed, with-node-highest, with-node-touched}
+use Rattle.commits.proofs.Contents.{Data-same, nodes-held, lists-held, nodes-push, nodes-list, taken-push, taken-list, plain-holds, branch-holds, data-holds}
+use Rattle.commits.proofs.Layouts.{found, Addable, Pushed, node-pushed, with-node-highest, with-node-touched}
 use Rattle.commits.proofs.Counting.{Counting, counting-push, counting-list, touch-again, touch-other, touch-same}
 
 -- the lists of a draft, and that they are the reached ones
@@ -56,12 +61,73 @@ carried c c′ s (k, ks) l (h, g) = (headed-same c c′ (s .header) k l h, logs-
 past-kept : (b : List ℕ) (p : ℕ) (new : List ℕ) (fs : List Span) → p ≤ length b → All (λ f. end-of f ≤ p) fs → All (Kept b (written b p new)) fs
 past-kept b p new fs h a = all-map (λ f. end-of f ≤ p) (Kept b (written b p new)) fs (λ f x. same-written b p new (f .start) (end-of f) h (inl x)) a
 
+-- each list holds what it held and then what is new for it; no ID that was known before names a list that was not there
+pub record Grows (c : List ℕ) (y : Layout) (ls : List NodeList) (c′ : List ℕ) (y′ : Layout) (ms : List NodeList) (new : ℕ → List Content) : Type 0 where
+  pub grown : (id : ℕ) → map (holds c′) (nodes-of ms id) ≡ map (holds c) (nodes-of ls id) ++ new id
+  pub known : (id : ℕ) → id ≤ y .highest → taken id ms ≡ taken id ls
+  pub higher : y .highest ≤ y′ .highest
+
+-- data that ends by the draft's end is as it was, where only what is behind that was written
+longer-held : (c : List ℕ) (s : Section) (y : Layout) (ls : List NodeList) (new : List ℕ) (id : ℕ) → Laid c s y ls → map (holds (written c (y .end) new)) (nodes-of ls id) ≡ map (holds c) (nodes-of ls id)
+longer-held c s y ls new id d =
+    let wh = d .body .whole in
+    let c′ : List ℕ = written c (y .end) new in
+    let lc = length-written c (y .end) new wh in
+    lists-held c c′ ls id (all-map (λ r. end-of r ≤ y .end) (Data-same c c′) (data-spans ls)
+      (λ r x. (omega arith, omega arith, same-written c (y .end) new (r .start) (end-of r) wh (inl x))) (d .body .data-inside))
+
+-- what the lists hold with one node more, if it holds X in the row before
+pushed-holds : (c : List ℕ) (s : Section) (y : Layout) (pre : List NodeList) (l : NodeList) (post : List NodeList) (new : List ℕ) (n : ℕ → Node) (P : Plan) (X : Content) (id : ℕ)
+    → Laid c s y (pre ++ (l ∷ post)) → Addable s y (pre ++ (l ∷ post)) new n → (q : Pushed c s y n pre l post P) → ((p : ℕ) → holds c (n p) ≡ X)
+    → map (holds (applied c (P .writes))) (nodes-of (pre ++ (q .list ∷ post)) id) ≡ map (holds c) (nodes-of (pre ++ (l ∷ post)) id) ++ cond (eqb (l .id) id) (X ∷ []) []
+pushed-holds c s y pre l post new n P X id d a q what =
+    let ls : List NodeList = pre ++ (l ∷ post) in
+    let c′ : List ℕ = applied c (P .writes) in
+    let F : Span → Type 0 = Data-fits (up-to (s .header) (y .end)) (s .log .fragments) ls in
+    let wh = d .body .whole in
+    let wh′ = q .laid .body .whole in
+    let ri = q .rises in
+    let at : Node = n (q .place) in
+    let same : (r : Span) → F r → Data-same c c′ r = λ r x. (omega (arith, x .0), omega (arith, x .0), q .data-kept r x) in
+    let olds : All F (data-spans ls) = all-both (λ r. end-of r ≤ y .end) (λ r. All (Apart r) (header-span ∷ (s .log .fragments ++ list-fragments ls))) F (data-spans ls) (λ r x z. (x, z)) (d .body .data-inside) (d .body .data-apart) in
+    let h1 = lists-held c c′ ls id (all-map F (Data-same c c′) (data-spans ls) same olds) in
+    let h2 : map (holds c′) (at ∷ []) ≡ map (holds c) (at ∷ []) = nodes-held c c′ (at ∷ []) (all-map F (Data-same c c′) (map (λ m. m .reference) (referring 1 (at ∷ []))) same (a .data-fits (q .place))) in
+    let h3 : map (holds c′) (at ∷ []) ≡ X ∷ [] = h2 ∙ ap (λ (z : Content). z ∷ []) (what (q .place)) in
+    ap (λ (z : List Node). map (holds c′) z) (nodes-push pre l (q .list) post at id (q .same) (q .nodes) (d .body .ids-differ))
+    ∙ map-append (holds c′) (nodes-of ls id) (cond (eqb (l .id) id) (at ∷ []) [])
+    ∙ ap (λ (z : List Content). z ++ map (holds c′) (cond (eqb (l .id) id) (at ∷ []) [])) h1
+    ∙ ap (λ (z : List Content). map (holds c) (nodes-of ls id) ++ z) (elim (cases-bool (eqb (l .id) id)) [
+      | inl e ↦ rw e h3
+      | inr e ↦ rw e
+    ])
+
+-- what the lists hold with one list more
+list-holds : (c c1 : List ℕ) (ls : List NodeList) (m : NodeList) (Y : Content) (id : ℕ) → All (λ l. l .id ≢ m .id) ls → map (holds c1) (m .nodes) ≡ Y ∷ []
+    → map (holds c1) (nodes-of ls id) ≡ map (holds c) (nodes-of ls id) → map (holds c1) (nodes-of (ls ++ (m ∷ [])) id) ≡ map (holds c) (nodes-of ls id) ++ cond (eqb (m .id) id) (Y ∷ []) []
+list-holds c c1 ls m Y id d e f =
+    ap (λ (z : List Node). map (holds c1) z) (nodes-list ls m id d)
+    ∙ map-append (holds c1) (nodes-of ls id) (cond (eqb (m .id) id) (m .nodes) [])
+    ∙ ap (λ (z : List Content). z ++ map (holds c1) (cond (eqb (m .id) id) (m .nodes) [])) f
+    ∙ ap (λ (z : List Content). map (holds c) (nodes-of ls id) ++ z) (elim (cases-bool (eqb (m .id) id)) [
+      | inl x ↦ rw x e
+      | inr x ↦ rw x
+    ])
+
+-- of two IDs at most one is meant
+either-sum : (A : List Content) (X Y : Content) (p q id : ℕ) → p < q → (A ++ cond (eqb q id) (Y ∷ []) []) ++ cond (eqb p id) (X ∷ []) [] ≡ A ++ cond (eqb p id) (X ∷ []) (cond (eqb q id) (Y ∷ []) [])
+either-sum A X Y p q id h = elim (cases-bool (eqb p id)) [
+  | inl e ↦ let f : eqb q id ≡ false = grind (arith, tells) in rw (e, f) (ap (λ (z : List Content). z ++ (X ∷ [])) (append-nil A))
+  | inr e ↦ rw e (append-nil (A ++ cond (eqb q id) (Y ∷ []) []))
+]
+
 -- the numbers of a layout that is within bounds
 pub record Fine (y : Layout) : Type 0 where
   pub end : y .end ≤ 2 ^ 40
   pub highest : y .highest < 2 ^ 32
   pub fragments : y .fragments ≤ 2048
   pub lists : y .lists ≤ 1024
+  pub touched : length (y .touched) ≤ 16
+  pub counts : All (λ t. t .count < 2 ^ 32) (y .tails)
 
 -- names ----------------------------------------------------------------------------------------------------------------
 
@@ -78,15 +144,18 @@ named-none l l′ n e f = named-push l l′ n e ∙ ap (λ (z : List Node). name
 
 -- a node that names no list --------------------------------------------------------------------------------------------------
 
-simple-step : (c : List ℕ) (s : Section) (y : Layout) (ls : List NodeList) (id : ℕ) (new : List ℕ) (n : ℕ → Node)
+simple-step : (c : List ℕ) (s : Section) (y : Layout) (ls : List NodeList) (id : ℕ) (new : List ℕ) (n : ℕ → Node) (X : Content)
     → Drafted c s y ls → Addable s y ls new n → y .end < 2 ^ 64 → y .highest < 2 ^ 32 → y .fragments < 2 ^ 32 → member id (map (λ t. t .id) (y .tails)) ≡ true
-    → ((p : ℕ) → referring 2 (n p ∷ []) ≡ []) → (ms : List NodeList) × Drafted (applied c (with-node y id new .writes)) s (with-node y id new .layout) ms
-simple-step c s y ls id new n d a x1 x2 x3 k w =
+    → ((p : ℕ) → referring 2 (n p ∷ []) ≡ []) → ((p : ℕ) → holds c (n p) ≡ X)
+    → (ms : List NodeList) × Drafted (applied c (with-node y id new .writes)) s (with-node y id new .layout) ms
+      × Grows c y ls (applied c (with-node y id new .writes)) (with-node y id new .layout) ms (λ whose. cond (eqb id whose) (X ∷ []) [])
+simple-step c s y ls id new n X d a x1 x2 x3 k w what =
     let f = found ls id (subst (λ (z : List Tail). member id (map (λ t. t .id) z) ≡ true) (d .laid .tails) k) in
     at-split (f .pre) (f .list) (f .post) (f .split) (f .same) (f .tail′)
   where
     goal : ℕ → Type 0
     goal i = (ms : List NodeList) × Drafted (applied c (with-node y i new .writes)) s (with-node y i new .layout) ms
+        × Grows c y ls (applied c (with-node y i new .writes)) (with-node y i new .layout) ms (λ whose. cond (eqb i whose) (X ∷ []) [])
     at-split : (pre : List NodeList) (l : NodeList) (post : List NodeList) → ls ≡ pre ++ (l ∷ post) → l .id ≡ id → find-tail (map tail-of ls) id ≡ tail-of l → goal id
     at-split pre l post e i t =
         let d1 : Laid c s y (pre ++ (l ∷ post)) = subst (λ z. Laid c s y z) e (d .laid) in
@@ -109,23 +178,32 @@ simple-step c s y ls id new n d a x1 x2 x3 k w =
           logs = lg;
           tied = tied-header (up-to (s .header) (y .end)) (up-to (s .header) (with-node y (l .id) new .layout .end)) (pre ++ (p .list ∷ post)) refl
               (tied-push (up-to (s .header) (y .end)) pre l (p .list) post (p .first) (named-none l (p .list) (n (p .place)) (p .nodes) (w (p .place))) t1);
+        }, record {
+          grown = λ x. pushed-holds c s y pre l post new n (with-node y (l .id) new) X x d1 a1 p what
+              ∙ ap (λ (z : List NodeList). map (holds c) (nodes-of z x) ++ cond (eqb (l .id) x) (X ∷ []) []) (sym e);
+          known = λ x h. taken-push pre l (p .list) post x (p .same) ∙ ap (λ (z : List NodeList). taken x z) (sym e);
+          higher = omega (arith, with-node-highest y (l .id) new);
         })
+
+-- the lists after an add: still those of a draft, and grown by what it saves
+abbrev pub Stepped : List ℕ → Section → Layout → List NodeList → Add → Type 0
+Stepped c s y ls a = (ms : List NodeList) × Drafted (applied c (planned y a .writes)) s (planned y a .layout) ms × Grows c y ls (applied c (planned y a .writes)) (planned y a .layout) ms (saved-by y a)
 
 -- PLAIN
 pub plain-step : (c : List ℕ) (s : Section) (y : Layout) (ls : List NodeList) (list id : ℕ) (payload : List ℕ) → Drafted c s y ls → Fine y → Fair id → 4 + length payload ≤ 988
     → member list (map (λ t. t .id) (y .tails)) ≡ true
-    → (ms : List NodeList) × Drafted (applied c (planned y (plain list id payload) .writes)) s (planned y (plain list id payload) .layout) ms
+    → Stepped c s y ls (plain list id payload)
 unfolding planned referring
 plain-step c s y ls list id payload d f i k m =
-    simple-step c s y ls list (plain-node id payload) (λ p. plain-of p id payload) d (record { made = plain-made id payload i k; data-fits = λ p. tt })
-      (omega (arith, f .end)) (f .highest) (omega (arith, f .fragments)) m (λ p. refl)
+    simple-step c s y ls list (plain-node id payload) (λ p. plain-of p id payload) (content-of id 0 None payload []) d (record { made = plain-made id payload i k; data-fits = λ p. tt })
+      (omega (arith, f .end)) (f .highest) (omega (arith, f .fragments)) m (λ p. refl) (λ p. plain-holds c p id payload)
 
 -- DATA
 pub data-step : (c : List ℕ) (s : Section) (y : Layout) (ls : List NodeList) (list id : ℕ) (payload content : List ℕ) → Drafted c s y ls → Fine y → Fair id → 16 + length payload ≤ 988
-    → length content ≤ 65536 → member list (map (λ t. t .id) (y .tails)) ≡ true
-    → (ms : List NodeList) × Drafted (applied c (planned y (with-data list id payload content) .writes)) s (planned y (with-data list id payload content) .layout) ms
+    → 1 ≤ length content → length content ≤ 65536 → member list (map (λ t. t .id) (y .tails)) ≡ true
+    → Stepped c s y ls (with-data list id payload content)
 unfolding planned referring applied
-data-step c s y ls list id payload content d f i k z m =
+data-step c s y ls list id payload content d f i k o z m =
     let E = y .end in
     let h : Header = up-to (s .header) E in
     let gs = s .log .fragments in
@@ -153,9 +231,15 @@ data-step c s y ls list id payload content d f i k z m =
     let far : All (Apart r) (header-span ∷ (gs ++ list-fragments ls))
         = all-map (λ x. end-of x ≤ E) (Apart r) (header-span ∷ (gs ++ list-fragments ls)) (λ x u i v w. past-apart E r x (omega arith) u i w v) (all-by-end c h gs ls (d .laid .body)) in
     let fit : Data-fits (up-to (s .header) e) gs ls r = (omega arith, far) in
-    simple-step (written c E P) s y1 ls list (referring-node id 1 r payload) (λ p. referring-of p id 1 r payload) d1
+    let st : piece (written c E P) E (length content) ≡ content = piece-stored (written c E P) E content (stored-front (written c E P) E content pad (stored-written c E P (d .laid .body .whole))) in
+    let (ms, dr, gr) = simple-step (written c E P) s y1 ls list (referring-node id 1 r payload) (λ p. referring-of p id 1 r payload) (content-of id 1 (Some r) payload content) d1
       (record { made = referring-made id 1 r payload i (omega arith) (omega arith) k (omega arith) (omega arith); data-fits = λ p. one-fits (Data-fits (up-to (s .header) e) gs ls) (referring-of p id 1 r payload) fit })
-      (omega arith) (f .highest) (omega (arith, f .fragments)) m (λ p. refl)
+      (omega arith) (f .highest) (omega (arith, f .fragments)) m (λ p. refl) (λ p. data-holds (written c E P) p id E payload content o st) in
+    (ms, dr, record {
+      grown = λ x. gr .grown x ∙ ap (λ (z : List Content). z ++ cond (eqb list x) (content-of id 1 (Some r) payload content ∷ []) []) (longer-held c s y ls P x (d .laid));
+      known = gr .known;
+      higher = gr .higher;
+    })
   where
     one-fits : (Q : Span → Type 0) (n : Node) → Q (n .reference) → All Q (map (λ m. m .reference) (referring 1 (n ∷ [])))
     one-fits Q n q = elim (cases-bool (eqb (n .base) 1 && present (n .reference))) [
@@ -212,7 +296,7 @@ with-list-laid c s y ls list first-id first d f i k u v =
 -- BRANCH
 pub branch-step : (c : List ℕ) (s : Section) (y : Layout) (ls : List NodeList) (list id : ℕ) (payload : List ℕ) (first-id : ℕ) (first : List ℕ) → Drafted c s y ls → Fine y
     → Fair id → 16 + length payload ≤ 988 → Fair first-id → 4 + length first ≤ 988 → y .highest + 1 < 2 ^ 32 → member list (map (λ t. t .id) (y .tails)) ≡ true
-    → (ms : List NodeList) × Drafted (applied c (planned y (branch list id payload first-id first) .writes)) s (planned y (branch list id payload first-id first) .layout) ms
+    → Stepped c s y ls (branch list id payload first-id first)
 unfolding planned referring applied
 branch-step c s y ls list id payload first-id first d f i k j l0 v m =
     let fd = found ls list (subst (λ (z : List Tail). member list (map (λ t. t .id) z) ≡ true) (d .laid .tails) m) in
@@ -236,8 +320,13 @@ branch-step c s y ls list id payload first-id first d f i k j l0 v m =
     c1 = written c E (nf ++ pad)
     l2 : NodeList
     l2 = new-list (y .highest + 1) E (plain-of (E + 16) first-id first) (E + 16 + length node)
+    X : Content
+    X = content-of id 2 (Some fresh) payload []
+    Y : Content
+    Y = content-of first-id 0 None first []
     goal : ℕ → Type 0
     goal x = (ms : List NodeList) × Drafted (applied c1 (with-node (y1 x) x new .writes)) s (with-node (y1 x) x new .layout) ms
+        × Grows c y ls (applied c1 (with-node (y1 x) x new .writes)) (with-node (y1 x) x new .layout) ms (λ whose. cond (eqb x whose) (X ∷ []) (cond (eqb (y .highest + 1) whose) (Y ∷ []) []))
     at-split : (pre : List NodeList) (l : NodeList) (post : List NodeList) → ls ≡ pre ++ (l ∷ post) → l .id ≡ list → find-tail (map tail-of ls) list ≡ tail-of l → goal list
     at-split pre l post e q t =
         let h : Header = up-to (s .header) E in
@@ -288,4 +377,17 @@ branch-step c s y ls list id payload first-id first d f i k j l0 v m =
           head = hl2 .0;
           logs = hl2 .1;
           tied = tied-header h (up-to (s .header) (with-node (y1 (l .id)) (l .id) new .layout .end)) (pre ++ (p .list ∷ (post ++ (l2 ∷ [])))) refl t3;
+        }, record {
+          grown = λ x.
+              let A : List Content = map (holds c) (nodes-of ls x) in
+              let g1 = pushed-holds c1 s (y1 (l .id)) pre l (post ++ (l2 ∷ [])) new (λ p. referring-of p id 2 fresh payload) (with-node (y1 (l .id)) (l .id) new) X x d2 a2 p (λ z. branch-holds c1 z id E payload) in
+              let g2 : map (holds c1) (nodes-of (pre ++ (l ∷ (post ++ (l2 ∷ [])))) x) ≡ A ++ cond (eqb (y .highest + 1) x) (Y ∷ []) []
+                  = ap (λ (z : List NodeList). map (holds c1) (nodes-of z x)) (sym (append-assoc pre (l ∷ post) (l2 ∷ [])))
+                  ∙ list-holds c c1 (pre ++ (l ∷ post)) l2 Y x (all-map (λ m. m .id ≤ y .highest) (λ m. m .id ≢ y .highest + 1) (pre ++ (l ∷ post)) (λ m z w. omega arith) (d0 .known))
+                    (ap (λ (z : Content). z ∷ []) (plain-holds c1 (E + 16) first-id first)) (longer-held c s y (pre ++ (l ∷ post)) (nf ++ pad) x d0)
+                  ∙ ap (λ (z : List NodeList). map (holds c) (nodes-of z x) ++ cond (eqb (y .highest + 1) x) (Y ∷ []) []) (sym e) in
+              g1 ∙ ap (λ (z : List Content). z ++ cond (eqb (l .id) x) (X ∷ []) []) g2 ∙ either-sum A X Y (l .id) (y .highest + 1) x (omega arith);
+          known = λ x h. taken-push pre l (p .list) (post ++ (l2 ∷ [])) x (p .same) ∙ ap (λ (z : List NodeList). taken x z) (sym (append-assoc pre (l ∷ post) (l2 ∷ [])))
+              ∙ taken-list (pre ++ (l ∷ post)) l2 x (omega arith) ∙ ap (λ (z : List NodeList). taken x z) (sym e);
+          higher = omega (arith, with-node-highest (y1 (l .id)) (l .id) new);
         })

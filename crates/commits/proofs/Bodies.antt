@@ -52,7 +52,7 @@ spread-last b P d (across {f = f} ns ms p h o e t u) a = spread-last b P f t (a 
 own : (b : List ℕ) (h : Header) (gs : List Span) (pre : List NodeList) (l : NodeList) (post : List NodeList) → Right b h l
     → Pairwise Apart (header-span ∷ (gs ++ list-fragments (pre ++ (l ∷ post))))
     → Pairwise Apart (l .fragments) × All (λ m. All (Apart (last-fragment l)) (m .fragments)) pre × All (λ m. All (Apart (last-fragment l)) (m .fragments)) post
-      × All (Apart (last-fragment l)) (header-span ∷ gs)
+      × All (Apart (last-fragment l)) (header-span ∷ gs) × ((x : Span) → All (Apart x) (list-fragments (pre ++ (l ∷ post))) → Apart (last-fragment l) x)
 own b h gs pre l post r (p0, p) =
     let A = list-fragments pre in
     let B = list-fragments post in
@@ -69,7 +69,7 @@ own b h gs pre l post r (p0, p) =
         let v : All (Apart x) (A ++ (fs ++ B)) = subst (λ z. All (Apart x) z) (flat-row (λ (m : NodeList). m .fragments) pre (l ∷ post)) u in
         apart-sym x g (spread-last b (Apart x) (span 0 0) (r .part .spread) (all-front (Apart x) fs B (all-front (Apart x) A (fs ++ B) v .1) .0)) in
     (p4, all-flat (Apart g) (λ (m : NodeList). m .fragments) pre k1, all-flat (Apart g) (λ (m : NodeList). m .fragments) post k2,
-    (from header-span (all-front (Apart header-span) gs L p0 .1), all-map (λ x. All (Apart x) L) (Apart g) gs from x1))
+    (from header-span (all-front (Apart header-span) gs L p0 .1), all-map (λ x. All (Apart x) L) (Apart g) gs from x1), from)
 
 -- the bytes of a fragment are the same
 abbrev pub Kept : List ℕ → List ℕ → Span → Type 0
@@ -114,13 +114,14 @@ pub body-fits : (b : List ℕ) (h : Header) (gs : List Span) (pre : List NodeLis
     → Made new n → Body b h gs (pre ++ (l ∷ post)) → l .free + length new ≤ nodes-to (last-fragment l)
     → All (Data-fits h gs (pre ++ (l ∷ post))) (map (λ m. m .reference) (referring 1 (n (l .free) ∷ [])))
     → Body (written b (l .free) new) h gs (pre ++ (with-one l (n (l .free)) (l .free + length new) ∷ post)) × All (Kept b (written b (l .free) new)) (header-span ∷ gs)
+      × ((r : Span) → Data-fits h gs (pre ++ (l ∷ post)) r → Kept b (written b (l .free) new) r)
 body-fits b h gs pre l post new n m d k w =
     let c : List ℕ = written b (l .free) new in
     let g = last-fragment l in
     let l′ : NodeList = with-one l (n (l .free)) (l .free + length new) in
     let refs : List Span = map (λ m. m .reference) (referring 1 (n (l .free) ∷ [])) in
     let (r0, r1) = all-front (Right b h) pre (l ∷ post) (d .lists) in
-    let (ap, a0, a1, a2) = own b h gs pre l post (r1 .0) (d .apart) in
+    let (ap, a0, a1, a2, away) = own b h gs pre l post (r1 .0) (d .apart) in
     let (o, p) = fits-list b h (l .id) (l .fragments) (l .nodes) (l .free) new n m (d .whole) ap (r1 .0 .part) k in
     let e : list-fragments (pre ++ (l′ ∷ post)) ≡ list-fragments (pre ++ (l ∷ post)) = flat-instead (λ (m : NodeList). m .fragments) pre l l′ post refl in
     let up = r1 .0 .ends in
@@ -137,7 +138,8 @@ body-fits b h gs pre l post new n m d k w =
       data-apart = subst (λ z. All (λ r. All (Apart r) (header-span ∷ (gs ++ z))) (data-spans (pre ++ (l′ ∷ post)))) (sym e)
           (data-push (λ r. All (Apart r) (header-span ∷ (gs ++ list-fragments (pre ++ (l ∷ post))))) pre l l′ post (n (l .free)) refl (d .data-apart)
           (all-map (Data-fits h gs (pre ++ (l ∷ post))) (λ r. All (Apart r) (header-span ∷ (gs ++ list-fragments (pre ++ (l ∷ post))))) refs (λ r x. x .1) w));
-    }, all-both (Apart g) (λ f. end-of f ≤ h .end) (Kept b c) (header-span ∷ gs) (λ f u v. other-same b c (h .end) g (l .free) o f u v) a2 (d .least, d .log-inside))
+    }, all-both (Apart g) (λ f. end-of f ≤ h .end) (Kept b c) (header-span ∷ gs) (λ f u v. other-same b c (h .end) g (l .free) o f u v) a2 (d .least, d .log-inside),
+    λ r x. other-same b c (h .end) g (l .free) o r (away r (all-front (Apart r) gs (list-fragments (pre ++ (l ∷ post))) (x .1 .1) .1)) (x .0))
 
 -- it goes into a new fragment --------------------------------------------------------------------------------------------
 
@@ -196,6 +198,8 @@ pub body-spill : (b : List ℕ) (h : Header) (e : ℕ) (gs : List Span) (pre : L
     → Body (written (applied (written b (h .end) (new-fragment (l .id) (length (l .fragments)) new ++ pad)) (ended (l .free) (nodes-to (last-fragment l)))) (nodes-to (last-fragment l)) (span-bytes (span (h .end) 1024)))
       (up-to h e) gs (pre ++ (with-fragment l (span (h .end) 1024) (n (h .end + 16)) (h .end + 16 + length new) ∷ post))
       × All (Kept b (written (applied (written b (h .end) (new-fragment (l .id) (length (l .fragments)) new ++ pad)) (ended (l .free) (nodes-to (last-fragment l)))) (nodes-to (last-fragment l)) (span-bytes (span (h .end) 1024)))) (header-span ∷ gs)
+      × ((r : Span) → Data-fits h gs (pre ++ (l ∷ post)) r
+        → Kept b (written (applied (written b (h .end) (new-fragment (l .id) (length (l .fragments)) new ++ pad)) (ended (l .free) (nodes-to (last-fragment l)))) (nodes-to (last-fragment l)) (span-bytes (span (h .end) 1024))) r)
 body-spill b h e gs pre l post new pad n m d k u i j w =
     let E = h .end in
     let h′ : Header = up-to h e in
@@ -206,7 +210,7 @@ body-spill b h e gs pre l post new pad n m d k u i j w =
     let refs : List Span = map (λ m. m .reference) (referring 1 (n (E + 16) ∷ [])) in
     let F : List Span = header-span ∷ (gs ++ list-fragments (pre ++ (l ∷ post))) in
     let (r0, r1) = all-front (Right b h) pre (l ∷ post) (d .lists) in
-    let (ap, a0, a1, a2) = own b h gs pre l post (r1 .0) (d .apart) in
+    let (ap, a0, a1, a2, away) = own b h gs pre l post (r1 .0) (d .apart) in
     let (o, z, p) = spill-list b h h′ (l .id) (l .fragments) (l .nodes) (l .free) new pad n m (d .whole) (omega arith) u i j ap (r1 .0 .part) in
     let by-end : All (λ f. end-of f ≤ E) F = all-by-end b h gs (pre ++ (l ∷ post)) d in
     let q : last-of (span 0 0) (l .fragments ++ (fresh ∷ [])) ≡ fresh = last-push (span 0 0) (l .fragments) fresh in
@@ -224,4 +228,5 @@ body-spill b h e gs pre l post new pad n m d k u i j w =
       data-inside = all-map (λ r. (end-of r ≤ E) × All (Apart r) F) (λ r. end-of r ≤ e) (data-spans (pre ++ (l′ ∷ post))) (λ r x. omega (arith, x .0)) grown;
       data-apart = all-map (λ r. (end-of r ≤ E) × All (Apart r) F) (λ r. All (Apart r) (header-span ∷ (gs ++ list-fragments (pre ++ (l′ ∷ post))))) (data-spans (pre ++ (l′ ∷ post)))
           (λ r x. row-all (Apart r) gs pre l l′ post fresh refl (past-apart E fresh r (omega arith) (x .0)) (x .1)) grown;
-    }, all-both (Apart g) (λ f. end-of f ≤ E) (Kept b c) (header-span ∷ gs) (λ f u v. other-same b c E g (l .free) o f u v) a2 (d .least, d .log-inside))
+    }, all-both (Apart g) (λ f. end-of f ≤ E) (Kept b c) (header-span ∷ gs) (λ f u v. other-same b c E g (l .free) o f u v) a2 (d .least, d .log-inside),
+    λ r x. other-same b c E g (l .free) o r (away r (all-front (Apart r) gs (list-fragments (pre ++ (l ∷ post))) (x .1 .1) .1)) (x .0))

@@ -73,21 +73,11 @@ body-same b c h h′ gs ls d x y k =
       data-apart = d .data-apart;
     }
 
--- a write in a fragment leaves what is apart from it
-pub write-apart : (b : List ℕ) (p : ℕ) (new : List ℕ) (g f : Span) → p ≤ length b → g .start ≤ p → p + length new ≤ end-of g → Apart g f → Kept b (written b p new) f
-write-apart b p new g f h k l a i x y = elim (cases-lt i p) [
-  | inl u ↦ sym (written-below b p new i h u)
-  | inr u ↦ elim (cases-lt i (p + length new)) [
-    | inl v ↦ absurd (a i (omega arith, omega arith) (x, y))
-    | inr v ↦ sym (written-above b p new i h v)
-  ]
-]
-
--- the header's write leaves every fragment of a list
-head-kept : (b c : List ℕ) (f : Span) → ((hi : ℕ) → Same b c 512 hi) → 1 ≤ f .size → Apart header-span f → Kept b c f
-head-kept b c f s h a = elim (cases-lt (f .start) 1024) [
-  | inl x ↦ absurd (a (f .start) (omega arith, omega arith) (omega arith, omega arith))
-  | inr x ↦ λ i l k. s (end-of f) i (omega arith) k
+-- the header's write leaves what is apart from the header
+pub head-kept : (b c : List ℕ) (f : Span) → ((hi : ℕ) → Same b c 512 hi) → Apart header-span f → Kept b c f
+head-kept b c f s a i l k = elim (cases-lt i 1024) [
+  | inl x ↦ absurd (a i (omega arith, omega arith) (l, k))
+  | inr x ↦ s (end-of f) i (omega arith) k
 ]
 
 -- the whole --------------------------------------------------------------------------------------------------------
@@ -151,22 +141,9 @@ commit-head c s log ls end guid a g u v w l d t k x y =
     let (e, r) = head-rest c (s .header) end guid (a .whole) g in
     let wh = d .whole in
     let (p0, p1) = all-front (Apart header-span) (log .fragments) lf (d .apart .0) in
-    let i1 : All (Inside 36 end) lf = flat-all (Inside 36 end) (λ (m : NodeList). m .fragments) ls (all-map (Right c H) (λ m. All (Inside 36 end) (m .fragments)) ls (λ m z. z .part .inside) (d .lists)) in
-    let k1 : All (Kept c c2) lf = all-both (Apart header-span) (Inside 36 end) (Kept c c2) lf (λ f z q. head-kept c c2 f r (omega (arith, q .0)) z) p1 i1 in
-    let k2 : All (Kept c c2) (log .fragments) = all-both (Apart header-span) (Inside 12 end) (Kept c c2) (log .fragments) (λ f z q. head-kept c c2 f r (omega (arith, q .0)) z) p0 (l .part .inside) in
+    let k1 : All (Kept c c2) lf = all-map (Apart header-span) (Kept c c2) lf (λ f z. head-kept c c2 f r z) p1 in
+    let k2 : All (Kept c c2) (log .fragments) = all-map (Apart header-span) (Kept c c2) (log .fragments) (λ f z. head-kept c c2 f r z) p0 in
     means-from c2 H log ls (header-back c (s .header) end guid a g u v (d .least) w wh) (logs-same c c2 H log k2 l) (body-same c c2 H H (log .fragments) ls d (omega arith) (omega arith) k1) t k x y
-
--- the log's writes, where the entries fit ----------------------------------------------------------------------------------
-
-apart-sym : (f g : Span) → Apart f g → Apart g f
-apart-sym f g a i x y = a i y x
-
-log-agree-write : (b : List ℕ) (p : ℕ) (new : List ℕ) (d : Span) (fs : List Span) (used : ℕ) → Pairwise Apart fs → p ≤ length b → last-of d fs .start + 8 * used ≤ p → p + length new ≤ end-of (last-of d fs)
-    → Log-agree b (written b p new) fs used
-log-agree-write b p new d [] used a h k l = tt
-log-agree-write b p new d (f ∷ []) used a h k l = same-written b p new (f .start) (f .start + 8 * used) h (inl k)
-log-agree-write b p new d (f ∷ (g ∷ gs)) used (a, as′) h k l =
-    (write-apart b p new (last-of f (g ∷ gs)) f h (omega arith) l (apart-sym f (last-of f (g ∷ gs)) (last-all (Apart f) f g gs a)), log-agree-write b p new f (g ∷ gs) used as′ h k l)
 
 -- HEADER, in another row that has its bytes
 pub headed-same : (b c : List ℕ) (h : Header) → Kept b c header-span → h .end ≤ length c → Headed b h → Headed c h
@@ -200,49 +177,5 @@ take-same b c n x y s =
     let v : length (take n c) ≡ n = length-take n c ∙ omega arith in
     ext-getD 0 (take n b) (take n c) (u ∙ sym v) (λ i k. getD-take n b i 0 (omega arith) ∙ s i (omega arith) (omega arith) ∙ sym (getD-take n c i 0 (omega arith)))
 
-heading-same : (b c : List ℕ) (h : Header) (end : ℕ) (guid : List ℕ) → 1024 ≤ length b → 1024 ≤ length c → Kept b c header-span → header-write b h end guid ≡ header-write c h end guid
+pub heading-same : (b c : List ℕ) (h : Header) (end : ℕ) (guid : List ℕ) → 1024 ≤ length b → 1024 ≤ length c → Kept b c header-span → header-write b h end guid ≡ header-write c h end guid
 heading-same b c h end guid x y s = let e = take-same b c 512 (omega arith) (omega arith) (λ i l k. s i (omega arith) (omega arith)) in rw e
-
--- the log with a transaction more in its last fragment
-abbrev pub log-with : Log → List Entry → Log
-log-with l t = record { fragments = l .fragments; transactions = l .transactions ++ (t ∷ []); used = l .used + length (closed t) }
-
--- COMMIT, where the entries fit
-pub commit-fits : (c : List ℕ) (s : Section) (ls : List NodeList) (t : List Entry) (end : ℕ) (guid : List ℕ) → Headed c (s .header) → Logs c (s .header) (s .log)
-    → s .header .end ≤ end → end ≤ 2 ^ 40 → Body c (up-to (s .header) end) (s .log .fragments) ls → Tied (up-to (s .header) end) ls
-    → Follows (s .log .transactions) t → All Small (closed t) → s .log .used + length (closed t) ≤ entries-in (last-of (span 0 0) (s .log .fragments) .size)
-    → length guid ≡ 16 → s .header .count + 1 < 2 ^ 32 → s .header .generation + 1 < 2 ^ 64
-    → All (λ l. length (l .nodes) ≡ count-in (s .log .transactions ++ (t ∷ [])) (l .id)) ls → length ls ≤ 1024 → length (s .log .fragments ++ list-fragments ls) ≤ 2048
-    → Means (applied c (put (entry-place (last-of (span 0 0) (s .log .fragments)) (s .log .used)) (entry-bytes (closed t)) ∷ header-write c (s .header) end guid ∷ []))
-      (record { header = headed (s .header) end guid; log = log-with (s .log) t; lists = ls })
-unfolding applied
-commit-fits c s ls t end guid a l e m d ti w sm p g u v k x y =
-    let gs = s .log .fragments in
-    let lf : List Span = list-fragments ls in
-    let H : Header = headed (s .header) end guid in
-    let z : Span = span 0 0 in
-    let f : Span = last-of z gs in
-    let new : List ℕ = entry-bytes (closed t) in
-    let at : ℕ = entry-place f (s .log .used) in
-    let some = log-some c (s .header) (s .log) l in
-    let (q1, q2) = split-log (λ (w : List Span). All (Inside 12 (s .header .end)) w → Inside 12 (s .header .end) (last-of z w)) gs some (λ f gs i. last-all (Inside 12 (s .header .end)) z f gs i) (l .part .inside) in
-    let n = next-inside f q1 in
-    let ln = length-entry-bytes (closed t) in
-    let dw = d .whole in
-    let c1 : List ℕ = written c at new in
-    let lc = length-written c at new (omega arith) in
-    let (p0, p1) = all-front (Apart header-span) gs lf (d .apart .0) in
-    let (p2, p3, p4) = pair-front Apart gs lf (d .apart .1) in
-    let ah : Apart header-span f = split-log (λ (w : List Span). All (Apart header-span) w → Apart header-span (last-of z w)) gs some (λ f gs i. last-all (Apart header-span) z f gs i) p0 in
-    let al : All (Apart f) lf = split-log (λ (w : List Span). All (λ x. All (Apart x) lf) w → All (Apart (last-of z w)) lf) gs some (λ f gs i. last-all (λ x. All (Apart x) lf) z f gs i) p4 in
-    let kh : Kept c c1 header-span = write-apart c at new f header-span (omega arith) (omega arith) (omega arith) (apart-sym header-span f ah) in
-    let kl : All (Kept c c1) lf = all-map (Apart f) (Kept c c1) lf (λ r h. write-apart c at new f r (omega arith) (omega arith) (omega arith) h) al in
-    let ag : Log-agree c c1 gs (s .log .used) = log-agree-write c at new z gs (s .log .used) p2 (omega arith) (omega arith) (omega arith) in
-    let st : Stored c1 at new = stored-written c at new (omega arith) in
-    let en : entries-of c1 f (s .log .used) (length (closed t)) ≡ closed t = entries-back c1 f (s .log .used) (closed t) sm st in
-    let L : Logs c1 H (log-with (s .log) t) = log-fits c c1 (s .header) H (s .log) t l ag e refl refl w p en in
-    let B : Body c1 H gs ls = body-same c c1 (up-to (s .header) end) H gs ls d (omega arith) (omega arith) kl in
-    let T : Tied H ls = tied-header (up-to (s .header) end) H ls refl ti in
-    let aw = a .whole in
-    let M = commit-head c1 s (log-with (s .log) t) ls end guid (headed-same c c1 (s .header) kh (omega arith) a) g u v m L B T k x y in
-    subst (λ (w : Write). Means (applied c1 (w ∷ [])) (record { header = H; log = log-with (s .log) t; lists = ls })) (sym (heading-same c c1 (s .header) end guid aw (omega arith) kh)) M

@@ -25,6 +25,7 @@ use Rattle.model.specs.Saving.{Plan, with-node}
 use Rattle.commits.specs.Body.{Right, Body, with-one, with-fragment, last-fragment, up-to}
 use Rattle.commits.specs.Laid.{Laid}
 use Rattle.commits.proofs.Sizes.{length-new-fragment}
+use Rattle.commits.proofs.Store.{applied-row}
 use Rattle.commits.proofs.Rows.{all-front, all-join, all-map, flat-instead}
 use Rattle.commits.proofs.NodeAdded.{Made, ended}
 use Rattle.commits.proofs.Bodies.{Kept, Data-fits, body-fits, body-spill, last-push, row-old}
@@ -109,6 +110,8 @@ pub record Pushed (c : List ℕ) (s : Section) (y : Layout) (n : ℕ → Node) (
   pub laid : Laid (applied c (p .writes)) s (p .layout) (pre ++ (list ∷ post))
   pub rises : y .end ≤ p .layout .end
   pub kept : All (Kept c (applied c (p .writes))) (header-span ∷ s .log .fragments)
+  -- data is apart from all fragments
+  pub data-kept : (r : Span) → Data-fits (up-to (s .header) (y .end)) (s .log .fragments) (pre ++ (l ∷ post)) r → Kept c (applied c (p .writes)) r
 
 -- a node that may be added to the lists
 pub record Addable (s : Section) (y : Layout) (ls : List NodeList) (new : List ℕ) (n : ℕ → Node) : Type 0 where
@@ -141,15 +144,11 @@ pushed-fits c s y pre l post new n d a k =
       };
       rises = omega arith;
       kept = bd .1;
+      data-kept = bd .2;
     }
   where
     lengths : (l′ : NodeList) → length (pre ++ (l ∷ post)) ≡ length (pre ++ (l′ ∷ post))
     lengths l′ = length-append pre (l ∷ post) ∙ sym (length-append pre (l′ ∷ post))
-
-applied-row : (b : List ℕ) (xs ys : List Write) → applied b (xs ++ ys) ≡ applied (applied b xs) ys
-unfolding applied
-applied-row b [] ys = refl
-applied-row b (w ∷ xs) ys = applied-row (written b (w .place) (w .new)) xs ys
 
 spilt : (b : List ℕ) (w : Write) (ws : List Write) (v : Write) → applied b (w ∷ (ws ++ (v ∷ []))) ≡ written (applied (written b (w .place) (w .new)) ws) (v .place) (v .new)
 unfolding applied
@@ -215,6 +214,7 @@ pushed-spills c s y pre l post new n d a x1 x2 x3 =
       };
       rises = omega arith;
       kept = subst (λ z. All (Kept c z) (header-span ∷ gs)) (sym q) (bd .1);
+      data-kept = λ r x. subst (λ z. Kept c z r) (sym q) (bd .2 r x);
     }
 
 -- NODE: a plan for a node, done, gives its list one node more

@@ -1,37 +1,43 @@
--- A draft's own transaction follows the finished log and counts its lists; the commit of a draft.
--- Assumes nothing.
-use Prim.Native.Nat.{ℕ, _+_, _-_, _^_, _<_, _≤_}
+-- The commit of a draft: its transaction follows the finished log and counts its lists, and its writes make the whole.
+use Prim.Native.Nat.{ℕ, _+_, _^_, _<_, _≤_}
 use mathlib.Core.Path.{_≡_, refl, sym, ap, _∙_, subst}
 use mathlib.Core.Logic.{_≢_, inl, inr}
 use mathlib.Core.Bool.{true, false, cond, _||_}
 use mathlib.Core.List.{List, [], _∷_, _++_, map}
 use native.Mathlib.Omega.{arith}
 use lib.Dec.{eqb, ltb, leb}
-use lib.ListN.{length, take, drop}
+use lib.ListN.{length}
 use Rattle.std.specs.shelf.Lists.{All}
-use Rattle.std.proofs.shelf.Lists.{take-all, drop-all}
+use Rattle.std.proofs.shelf.Lists.{length-append, length-map}
 use Rattle.std.proofs.shelf.Tests.{cases-bool}
 use Rattle.std.proofs.shelf.Ways.{tells}
+use Rattle.model.specs.declared.types.Span.{Span}
 use Rattle.model.specs.declared.types.Entry.{Entry}
-use Rattle.model.specs.Bytes.{Write, put, applied}
-use Rattle.model.specs.References.{span}
-use Rattle.model.specs.LogFragments.{entry-bytes, entries-in, entry-place}
-use Rattle.model.specs.Section.{NodeList, Section, flat, last-of, count-in}
-use Rattle.model.specs.Means.{Pairwise, closed, Means}
-use Rattle.model.specs.Layouts.{Add, Tail, Layout, tail-of, blank, member, find-tail}
+use Rattle.model.specs.Bytes.{Write, applied}
+use Rattle.model.specs.References.{end-of}
+use Rattle.model.specs.Headers.{header-span, Header}
+use Rattle.model.specs.LogFragments.{entry, sentinel}
+use Rattle.model.specs.Section.{Log, NodeList, Section, flat, count-in, list-fragments}
+use Rattle.model.specs.Means.{Apart, Pairwise, Headed, data-spans, Means}
+use Rattle.model.specs.Layouts.{Add, Tail, Layout, tail-of, member, find-tail}
 use Rattle.model.specs.Saving.{layout}
-use Rattle.model.specs.Committing.{count-entries, if-any, header-write, committing}
-use Rattle.model.specs.Calls.{commit-checks}
-use Rattle.model.specs.Laws.{Done-adds, add-writes}
+use Rattle.model.specs.Committing.{count-entries, new-entries, logged, header-write, committing}
+use Rattle.model.specs.Calls.{past-ceiling, commit-checks}
+use Rattle.meaning.proofs.Base.{Clean}
 use Rattle.commits.specs.Body.{Right, up-to}
+use Rattle.commits.proofs.Store.{applied-row}
 use Rattle.commits.proofs.Rows.{all-map, all-both}
 use Rattle.commits.proofs.FragmentBack.{Small}
-use Rattle.commits.proofs.HeadBack.{headed}
+use Rattle.commits.proofs.Sums.{closed-small}
+use Rattle.commits.proofs.HeadBack.{headed, head-rest}
+use Rattle.commits.proofs.Bodies.{Kept}
+use Rattle.commits.proofs.Ties.{tied-header}
 use Rattle.commits.proofs.LogAdded.{Follows}
-use Rattle.commits.proofs.Commits.{log-with}
+use Rattle.commits.proofs.Commits.{head-kept, commit-head, headed-same, heading-same}
 use Rattle.commits.proofs.Counting.{Counts, counted-after, rising-entries, counts-lists}
-use Rattle.commits.proofs.Adds.{Drafted}
-use Rattle.commits.proofs.Drafts.{Clean, draft-commits, adds-drafted, blank-drafted}
+use Rattle.commits.proofs.Contents.{Data-same}
+use Rattle.commits.proofs.Adds.{Drafted, Fine}
+use Rattle.commits.proofs.LogWritten.{beside-apart, log-done}
 
 -- each list's tail is found by its ID
 tails-count : (ls : List NodeList) → Pairwise (λ l m. l .id ≢ m .id) ls → All (λ l. find-tail (map tail-of ls) (l .id) .count ≡ length (l .nodes)) ls
@@ -88,54 +94,87 @@ draft-follows c s y ls d =
     above ts T count l (inl (e, u)) v w = omega arith
     above ts T count l (inr (e, u)) v w = absurd (grind arith)
 
--- MEANS: after all adds and the commit's writes, where the entries fit
-pub draft-means : (b : List ℕ) (ceiling : ℕ) (s : Section) (adds : List Add) (guid : List ℕ) → Means b s → blank s .highest < 2 ^ 32 → Done-adds ceiling (blank s) adds
-    → All Small (closed (count-entries (layout s adds))) → s .log .used + length (closed (count-entries (layout s adds))) ≤ entries-in (last-of (span 0 0) (s .log .fragments) .size)
-    → length guid ≡ 16 → s .header .count + 1 < 2 ^ 32 → s .header .generation + 1 < 2 ^ 64
-    → (ms : List NodeList) × Drafted (applied b (add-writes (blank s) adds)) s (layout s adds) ms
-      × Means (applied (applied b (add-writes (blank s) adds))
-        (put (entry-place (last-of (span 0 0) (s .log .fragments)) (s .log .used)) (entry-bytes (closed (count-entries (layout s adds)))) ∷ header-write (applied b (add-writes (blank s) adds)) (s .header) (layout s adds .end) guid ∷ []))
-        (record { header = headed (s .header) (layout s adds .end) guid; log = log-with (s .log) (count-entries (layout s adds)); lists = ms })
-draft-means b ceiling s adds guid m h k sm p g u v =
-    let (d, f) = blank-drafted b s m h in
-    let (x, f′) = adds-drafted b ceiling s (blank s) (s .lists) adds d f k in
-    let c : List ℕ = applied b (add-writes (blank s) adds) in
-    let (w, n) = draft-follows c s (layout s adds) (x .0) (x .1) in
-    (x .0, x .1, draft-commits c s (layout s adds) (x .0) (count-entries (layout s adds)) guid (x .1) f′ w sm p g u v n)
+-- what a commit leaves --------------------------------------------------------------------------------------------------
 
--- the writes of a commit whose entries fit
-any-closed : (t : List Entry) (e : Entry) (ws : List Write) → if-any (t ++ (e ∷ [])) ws ≡ ws
-any-closed [] e ws = refl
-any-closed (x ∷ t) e ws = refl
+find-count : (ts : List Tail) (id : ℕ) → All (λ t. t .count < 2 ^ 32) ts → find-tail ts id .count < 2 ^ 32
+unfolding find-tail
+find-count [] id a = omega arith
+find-count (t ∷ ts) id (p, a) = elim (cases-bool (eqb (t .id) id)) [
+  | inl e ↦ rw e p
+  | inr e ↦ rw e (find-count ts id a)
+]
 
-pub committing-fits : (c : List ℕ) (s : Section) (adds : List Add) (guid : List ℕ)
-    → s .log .used + length (closed (count-entries (layout s adds))) ≤ entries-in (last-of (span 0 0) (s .log .fragments) .size)
-    → committing c s adds guid
-      ≡ put (entry-place (last-of (span 0 0) (s .log .fragments)) (s .log .used)) (entry-bytes (closed (count-entries (layout s adds)))) ∷ header-write c (s .header) (layout s adds .end) guid ∷ []
-unfolding committing
-committing-fits c s adds guid h =
-    let es : List Entry = closed (count-entries (layout s adds)) in
-    let room : ℕ = entries-in (last-of (span 0 0) (s .log .fragments) .size) - s .log .used in
-    let a : take room es ≡ es = take-all room es (omega arith) in
-    let d : drop room es ≡ [] = drop-all room es (omega arith) in
-    let m : ltb room (length es) ≡ false = grind (arith, tells) in
-    rw (a, d, m, any-closed)
-
--- MEANS: after all adds and the commit, where the entries fit
-pub commit-means : (b : List ℕ) (ceiling : ℕ) (s : Section) (adds : List Add) (guid : List ℕ) → Means b s → blank s .highest < 2 ^ 32 → Done-adds ceiling (blank s) adds
-    → All Small (closed (count-entries (layout s adds))) → s .log .used + length (closed (count-entries (layout s adds))) ≤ entries-in (last-of (span 0 0) (s .log .fragments) .size)
-    → length guid ≡ 16 → s .header .count + 1 < 2 ^ 32 → s .header .generation + 1 < 2 ^ 64
-    → (ms : List NodeList) × Drafted (applied b (add-writes (blank s) adds)) s (layout s adds) ms
-      × Means (applied (applied b (add-writes (blank s) adds)) (committing (applied b (add-writes (blank s) adds)) s adds guid))
-        (record { header = headed (s .header) (layout s adds .end) guid; log = log-with (s .log) (count-entries (layout s adds)); lists = ms })
-commit-means b ceiling s adds guid m h k sm p g u v =
-    let c : List ℕ = applied b (add-writes (blank s) adds) in
-    let (ms, d, x) = draft-means b ceiling s adds guid m h k sm p g u v in
-    (ms, d, subst (λ z. Means (applied c z) (record { header = headed (s .header) (layout s adds .end) guid; log = log-with (s .log) (count-entries (layout s adds)); lists = ms })) (sym (committing-fits c s adds guid p)) x)
+-- the numbers of a commit's entries take 4 bytes each
+draft-small : (c : List ℕ) (s : Section) (y : Layout) (ls : List NodeList) → Drafted c s y ls → Fine y → All Small (new-entries y)
+draft-small c s y ls d f =
+    let top = f .highest in
+    closed-small (count-entries y) (each (y .touched) (all-map (λ id. member id (map (λ l. l .id) ls) ≡ true) (λ id. id < 2 ^ 32) (y .touched)
+      (λ id u. from-member (λ x. x < 2 ^ 32) id ls u (all-map (λ l. l .id ≤ y .highest) (λ l. l .id < 2 ^ 32) ls (λ l k. omega arith) (d .laid .known))) (d .counting .known)))
+  where
+    each : (ids : List ℕ) → All (λ id. id < 2 ^ 32) ids → All Small (map (λ id. entry id (find-tail (y .tails) id .count)) ids)
+    each [] a = tt
+    each (id ∷ ids) (p, a) = ((p, find-count (y .tails) id (f .counts)), each ids a)
 
 -- what a commit's checks say of the numbers
-pub commit-bounds : (ceiling : ℕ) (s : Section) (adds : List Add) (guid : List ℕ) → Clean (commit-checks ceiling s adds guid) → (s .header .count + 1 < 2 ^ 32) × (s .header .generation + 1 < 2 ^ 64)
-commit-bounds ceiling s adds guid c = let k = c .1 .1 .1 .0 in from (s .header .count + 1) (s .header .generation + 1) k
+record Bounded (s : Section) (y : Layout) : Type 0 where
+  count : s .header .count + 1 < 2 ^ 32
+  generation : s .header .generation + 1 < 2 ^ 64
+  fragments : logged s y .fragments ≤ 2048
+  end : logged s y .end ≤ 2 ^ 40
+
+commit-bounds : (ceiling : ℕ) (s : Section) (adds : List Add) (guid : List ℕ) → layout s adds .end ≤ 2 ^ 40 → Clean (commit-checks ceiling s adds guid) → Bounded s (layout s adds)
+commit-bounds ceiling s adds guid h c =
+    let (x, y) = numbers (s .header .count + 1) (s .header .generation + 1) (c .1 .1 .1 .0) in
+    let k13 = c .1 .1 .0 in
+    record { count = x; generation = y; fragments = few (logged s (layout s adds) .fragments) k13; end = below (layout s adds .end) ceiling (logged s (layout s adds) .end) h (c .1 .1 .1 .1 .0) }
   where
-    from : (m n : ℕ) → leb (2 ^ 32) m || leb (2 ^ 64) n ≡ false → (m < 2 ^ 32) × (n < 2 ^ 64)
-    from m n e = (grind (arith, tells), grind (arith, tells))
+    numbers : (m n : ℕ) → leb (2 ^ 32) m || leb (2 ^ 64) n ≡ false → (m < 2 ^ 32) × (n < 2 ^ 64)
+    numbers m n e = (grind (arith, tells), grind (arith, tells))
+    few : (n : ℕ) → ltb 2048 n ≡ false → n ≤ 2048
+    few n e = grind (arith, tells)
+    below : (old ceiling end : ℕ) → old ≤ 2 ^ 40 → past-ceiling old ceiling end ≡ false → end ≤ 2 ^ 40
+    below old ceiling end h e = grind (arith, tells)
+
+-- the row c2 after a commit of the draft with the lists ls: it means the grown section, and has all data
+pub record Committed (c c2 : List ℕ) (s : Section) (y : Layout) (ls : List NodeList) (guid : List ℕ) : Type 0 where
+  pub log : Log
+  pub transactions : log .transactions ≡ s .log .transactions ++ (count-entries y ∷ [])
+  pub means : Means c2 (record { header = headed (s .header) (logged s y .end) guid; log = log; lists = ls })
+  pub data-same : All (Data-same c c2) (data-spans ls)
+
+-- COMMIT
+pub commit-done : (c : List ℕ) (ceiling : ℕ) (s : Section) (adds : List Add) (ls : List NodeList) (guid : List ℕ) → Drafted c s (layout s adds) ls → Fine (layout s adds) → length guid ≡ 16
+    → Clean (commit-checks ceiling s adds guid) → Committed c (applied c (committing c s adds guid)) s (layout s adds) ls guid
+unfolding committing
+commit-done c ceiling s adds ls guid d f g k =
+    let y : Layout = layout s adds in
+    let gs = s .log .fragments in
+    let lf : List Span = list-fragments ls in
+    let fe = f .end in
+    let n = commit-bounds ceiling s adds guid fe k in
+    let end : ℕ = logged s y .end in
+    let H : Header = headed (s .header) end guid in
+    let (w, counted) = draft-follows c s y ls d in
+    let ft = f .touched in
+    let few : length (new-entries y) ≤ 126 = omega (arith, length-append (count-entries y) (sentinel (count-entries y) ∷ []), length-map {A = ℕ} {B = Entry} (y .touched) (λ id. entry id (find-tail (y .tails) id .count))) in
+    let L = log-done c s y ls guid d f w (draft-small c s y ls d f) few (n .fragments) in
+    let c1 : List ℕ = applied c (logged s y .writes) in
+    let B = L .beside in
+    let wh = d .laid .body .whole in
+    let low = d .laid .body .least in
+    let la = d .later in
+    let reach = B .after in
+    let kh : Kept c c1 header-span = beside-apart c c1 (y .end) (L .last) (L .place) B header-span (L .apart .0) low in
+    let a1 : Headed c1 (s .header) = headed-same c c1 (s .header) kh (omega arith) (d .head) in
+    let hw : header-write c (s .header) end guid ≡ header-write c1 (s .header) end guid = heading-same c c1 (s .header) end guid (d .head .whole) (a1 .whole) kh in
+    let c2 : List ℕ = applied c1 (header-write c1 (s .header) end guid ∷ []) in
+    let q : applied c (logged s y .writes ++ (header-write c (s .header) end guid ∷ [])) ≡ c2 = applied-row c (logged s y .writes) (header-write c (s .header) end guid ∷ []) ∙ ap (λ (z : Write). applied c1 (z ∷ [])) hw in
+    let (e2, r2) = head-rest c1 (s .header) end guid (a1 .whole) g in
+    let M = commit-head c1 s (L .log) ls end guid a1 g (n .count) (n .generation) (n .end) (L .logs) (L .body) (tied-header (up-to (s .header) (y .end)) H ls refl (d .tied))
+        (subst (λ (z : List (List Entry)). All (λ l. length (l .nodes) ≡ count-in z (l .id)) ls) (sym (L .transactions)) counted) (omega (arith, d .laid .lists, f .lists)) (L .few) in
+    let far : All (λ r. Apart (L .last) r × Apart header-span r) (data-spans ls)
+        = all-both (Apart (L .last)) (λ r. All (Apart r) (header-span ∷ (gs ++ lf))) (λ r. Apart (L .last) r × Apart header-span r) (data-spans ls) (λ r u v. (u, λ i x z. v .0 i z x)) (L .data-apart) (d .laid .body .data-apart) in
+    let D : All (Data-same c c2) (data-spans ls)
+        = all-both (λ r. end-of r ≤ y .end) (λ r. Apart (L .last) r × Apart header-span r) (Data-same c c2) (data-spans ls)
+          (λ r u v. (omega arith, omega arith, λ i x z. beside-apart c c1 (y .end) (L .last) (L .place) B r (v .0) u i x z ∙ head-kept c1 c2 r r2 (v .1) i x z)) (d .laid .body .data-inside) far in
+    subst (λ (z : List ℕ). Committed c z s y ls guid) (sym q) (record { log = L .log; transactions = L .transactions; means = M; data-same = D })

@@ -1,7 +1,7 @@
 -- What was written stands there, and what stands there is read.
 -- Assumes nothing.
 use Prim.Native.Nat.{ℕ, zero, suc, _+_, _-_, _/_, _%_, _^_, _<_, _≤_, max}
-use mathlib.Core.Path.{_≡_, sym, ap, _∙_}
+use mathlib.Core.Path.{_≡_, refl, sym, ap, _∙_}
 use mathlib.Core.Logic.{_⊎_, inl, inr}
 use mathlib.Core.List.{List, [], _∷_, _++_}
 use native.Mathlib.Nat.{pow-suc, div-lt-iff-lt-mul, add-zero}
@@ -11,7 +11,7 @@ use lib.ListN.{length, getD, take, drop}
 use Rattle.std.proofs.shelf.Lists.{places, ext-getD, length-append, length-take, length-drop, getD-take, getD-drop, getD-append-left}
 use Rattle.model.specs.declared.types.Span.{Span}
 use Rattle.model.specs.declared.types.Entry.{Entry}
-use Rattle.model.specs.Bytes.{le, digits, piece, written, Same}
+use Rattle.model.specs.Bytes.{le, digits, piece, Write, written, applied, Same}
 use Rattle.model.specs.References.{span-at, span-bytes}
 use Rattle.model.specs.LogFragments.{entry-at, entry-bytes}
 use Rattle.commits.specs.Stored.{Stored}
@@ -39,6 +39,12 @@ written-above b p new i h l = search (needs, places)
 pub same-written : (b : List ℕ) (p : ℕ) (new : List ℕ) (lo hi : ℕ) → p ≤ length b → (hi ≤ p) ⊎ (p + length new ≤ lo) → Same b (written b p new) lo hi
 same-written b p new lo hi h (inl x) i l k = sym (written-below b p new i h (omega arith))
 same-written b p new lo hi h (inr x) i l k = sym (written-above b p new i h (omega arith))
+
+-- writes one after the other
+pub applied-row : (b : List ℕ) (xs ys : List Write) → applied b (xs ++ ys) ≡ applied (applied b xs) ys
+unfolding applied
+applied-row b [] ys = refl
+applied-row b (w ∷ xs) ys = applied-row (written b (w .place) (w .new)) xs ys
 
 pub stored-written : (b : List ℕ) (p : ℕ) (new : List ℕ) → p ≤ length b → Stored (written b p new) p new
 stored-written b p new h = record {
