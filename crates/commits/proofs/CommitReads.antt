@@ -37,7 +37,7 @@ use Rattle.commits.proofs.Saved.{commit-done}
 
 -- the order of the lists does not matter ---------------------------------------------------------------------------------
 
-taken-in : (ls : List NodeList) (id : ℕ) → taken id ls ≡ true → (l : NodeList) × In l ls × (l .id ≡ id)
+pub taken-in : (ls : List NodeList) (id : ℕ) → taken id ls ≡ true → (l : NodeList) × In l ls × (l .id ≡ id)
 taken-in [] id e = absurd (grind arith)
 taken-in (k ∷ ls) id e = elim (cases-bool (eqb (k .id) id)) [
   | inl x ↦ (k, inl refl, grind (arith, tells))

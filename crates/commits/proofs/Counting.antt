@@ -107,7 +107,7 @@ counts-list ts ids ls l d n a =
 abbrev pub entries-for : (ℕ → ℕ) → List ℕ → List Entry
 entries-for count ids = map (λ id. entry id (count id)) ids
 
-latest-row : (id n : ℕ) (xs ys : List Entry) → latest id n (xs ++ ys) ≡ latest id (latest id n xs) ys
+pub latest-row : (id n : ℕ) (xs ys : List Entry) → latest id n (xs ++ ys) ≡ latest id (latest id n xs) ys
 unfolding latest
 latest-row id n [] ys = refl
 latest-row id n (x ∷ xs) ys = latest-row id (cond (eqb (x .source) id) (x .number) n) xs ys
@@ -214,7 +214,7 @@ counting-push s ids highest pre l l′ post d e n c =
       sources = c .sources;
     }
 
-latest-absent : (id highest n : ℕ) (es : List Entry) → highest < id → All (λ e. e .source ≤ highest) es → latest id n es ≡ n
+pub latest-absent : (id highest n : ℕ) (es : List Entry) → highest < id → All (λ e. e .source ≤ highest) es → latest id n es ≡ n
 unfolding latest
 latest-absent id highest n [] h a = refl
 latest-absent id highest n (e ∷ es) h (p, a) =
