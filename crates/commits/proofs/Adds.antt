@@ -13,6 +13,7 @@ use Rattle.std.specs.declared.option.Option.the-variants.{Some, None}
 use Rattle.std.proofs.shelf.Lists.{append-assoc, append-nil, length-append, length-replicate, map-append}
 use Rattle.std.proofs.shelf.Tests.{cases-bool}
 use Rattle.std.proofs.shelf.Ways.{tells}
+use Rattle.std.proofs.shelf.Elements.{all-append, all-weaker}
 use Rattle.model.specs.declared.types.Span.{Span}
 use Rattle.model.specs.Bytes.{piece, written, applied, behind}
 use Rattle.model.specs.References.{span, end-of, present}
@@ -26,10 +27,12 @@ use Rattle.model.specs.Looks.{nodes-of}
 use Rattle.model.specs.Layouts.{Add, plain, with-data, branch, Tail, tail, Layout, tail-of, member, touch, find-tail, ending-at, more-fragments, more-lists}
 use Rattle.model.specs.Saving.{Plan, at-end, with-node, planned}
 use Rattle.model.specs.Contents.{Content, content-of, holds, saved-by}
+use Rattle.meaning.proofs.Base.{all-front}
+use Rattle.meaning.proofs.Members.{flat-append}
 use Rattle.commits.specs.Body.{Right, Body, Tied, up-to}
 use Rattle.commits.specs.Laid.{Laid}
 use Rattle.commits.proofs.Sizes.{length-new-fragment}
-use Rattle.commits.proofs.Rows.{all-front, all-join, all-map, all-both, flat-row}
+use Rattle.commits.proofs.Rows.{all-both}
 use Rattle.commits.proofs.NodeBack.{Fair, plain-of, referring-of}
 use Rattle.commits.proofs.NodeAdded.{Made, plain-made, referring-made}
 use Rattle.commits.proofs.Bodies.{Kept, Data-fits, referring-row, all-by-end, past-apart}
@@ -59,7 +62,7 @@ carried c c′ s (k, ks) l (h, g) = (headed-same c c′ (s .header) k l h, logs-
 
 -- a write behind the end
 past-kept : (b : List ℕ) (p : ℕ) (new : List ℕ) (fs : List Span) → p ≤ length b → All (λ f. end-of f ≤ p) fs → All (Kept b (written b p new)) fs
-past-kept b p new fs h a = all-map (λ f. end-of f ≤ p) (Kept b (written b p new)) fs (λ f x. same-written b p new (f .start) (end-of f) h (inl x)) a
+past-kept b p new fs h a = all-weaker (λ f. end-of f ≤ p) (Kept b (written b p new)) (λ f x. same-written b p new (f .start) (end-of f) h (inl x)) fs a
 
 -- each list holds what it held and then what is new for it; no ID that was known before names a list that was not there
 pub record Grows (c : List ℕ) (y : Layout) (ls : List NodeList) (c′ : List ℕ) (y′ : Layout) (ms : List NodeList) (new : ℕ → List Content) : Type 0 where
@@ -73,8 +76,7 @@ longer-held c s y ls new id d =
     let wh = d .body .whole in
     let c′ : List ℕ = written c (y .end) new in
     let lc = length-written c (y .end) new wh in
-    lists-held c c′ ls id (all-map (λ r. end-of r ≤ y .end) (Data-same c c′) (data-spans ls)
-      (λ r x. (omega arith, omega arith, same-written c (y .end) new (r .start) (end-of r) wh (inl x))) (d .body .data-inside))
+    lists-held c c′ ls id (all-weaker (λ r. end-of r ≤ y .end) (Data-same c c′) (λ r x. (omega arith, omega arith, same-written c (y .end) new (r .start) (end-of r) wh (inl x))) (data-spans ls) (d .body .data-inside))
 
 -- what the lists hold with one node more, if it holds X in the row before
 pushed-holds : (c : List ℕ) (s : Section) (y : Layout) (pre : List NodeList) (l : NodeList) (post : List NodeList) (new : List ℕ) (n : ℕ → Node) (P : Plan) (X : Content) (id : ℕ)
@@ -90,8 +92,8 @@ pushed-holds c s y pre l post new n P X id d a q what =
     let at : Node = n (q .place) in
     let same : (r : Span) → F r → Data-same c c′ r = λ r x. (omega (arith, x .0), omega (arith, x .0), q .data-kept r x) in
     let olds : All F (data-spans ls) = all-both (λ r. end-of r ≤ y .end) (λ r. All (Apart r) (header-span ∷ (s .log .fragments ++ list-fragments ls))) F (data-spans ls) (λ r x z. (x, z)) (d .body .data-inside) (d .body .data-apart) in
-    let h1 = lists-held c c′ ls id (all-map F (Data-same c c′) (data-spans ls) same olds) in
-    let h2 : map (holds c′) (at ∷ []) ≡ map (holds c) (at ∷ []) = nodes-held c c′ (at ∷ []) (all-map F (Data-same c c′) (map (λ m. m .reference) (referring 1 (at ∷ []))) same (a .data-fits (q .place))) in
+    let h1 = lists-held c c′ ls id (all-weaker F (Data-same c c′) same (data-spans ls) olds) in
+    let h2 : map (holds c′) (at ∷ []) ≡ map (holds c) (at ∷ []) = nodes-held c c′ (at ∷ []) (all-weaker F (Data-same c c′) same (map (λ m. m .reference) (referring 1 (at ∷ []))) (a .data-fits (q .place))) in
     let h3 : map (holds c′) (at ∷ []) ≡ X ∷ [] = h2 ∙ ap (λ (z : Content). z ∷ []) (what (q .place)) in
     ap (λ (z : List Node). map (holds c′) z) (nodes-push pre l (q .list) post at id (q .same) (q .nodes) (d .body .ids-differ))
     ∙ map-append (holds c′) (nodes-of ls id) (cond (eqb (l .id) id) (at ∷ []) [])
@@ -229,7 +231,7 @@ data-step c s y ls list id payload content d f i k o z m =
       tied = tied-header h (up-to (s .header) e) ls refl (d .tied);
     } in
     let far : All (Apart r) (header-span ∷ (gs ++ list-fragments ls))
-        = all-map (λ x. end-of x ≤ E) (Apart r) (header-span ∷ (gs ++ list-fragments ls)) (λ x u i v w. past-apart E r x (omega arith) u i w v) (all-by-end c h gs ls (d .laid .body)) in
+        = all-weaker (λ x. end-of x ≤ E) (Apart r) (λ x u i v w. past-apart E r x (omega arith) u i w v) (header-span ∷ (gs ++ list-fragments ls)) (all-by-end c h gs ls (d .laid .body)) in
     let fit : Data-fits (up-to (s .header) e) gs ls r = (omega arith, far) in
     let st : piece (written c E P) E (length content) ≡ content = piece-stored (written c E P) E content (stored-front (written c E P) E content pad (stored-written c E P (d .laid .body .whole))) in
     let (ms, dr, gr) = simple-step (written c E P) s y1 ls list (referring-node id 1 r payload) (λ p. referring-of p id 1 r payload) (content-of id 1 (Some r) payload content) d1
@@ -280,17 +282,17 @@ with-list-laid c s y ls list first-id first d f i k u v =
     let e : ℕ = E + length (nf ++ pad) in
     let lp : length (nf ++ pad) ≡ length nf + length pad = length-append nf pad in
     let q1 : length (gs ++ list-fragments (ls ++ (l ∷ []))) ≡ length (gs ++ list-fragments ls) + 1
-        = ap (λ z. length (gs ++ z)) (flat-row (λ (m : NodeList). m .fragments) ls (l ∷ [])) ∙ ap length (sym (append-assoc gs (list-fragments ls) (span E 1024 ∷ []))) ∙ length-append (gs ++ list-fragments ls) (span E 1024 ∷ []) in
+        = ap (λ z. length (gs ++ z)) (flat-append (λ (m : NodeList). m .fragments) ls (l ∷ [])) ∙ ap length (sym (append-assoc gs (list-fragments ls) (span E 1024 ∷ []))) ∙ length-append (gs ++ list-fragments ls) (span E 1024 ∷ []) in
     let df = d .fragments in
     let dl = d .lists in
     let q2 = length-append ls (l ∷ []) in
     record {
       body = body-list c h e gs ls id node pad (λ p. plain-of p first-id first) m (d .body) (omega arith) (omega arith) v
-          (all-map (λ l. l .id ≤ y .highest) (λ l. l .id ≢ id) ls (λ l x z. omega arith) (d .known)) refl;
+          (all-weaker (λ l. l .id ≤ y .highest) (λ l. l .id ≢ id) (λ l x z. omega arith) ls (d .known)) refl;
       tails = ap (λ z. z ++ (tail-of l ∷ [])) (d .tails) ∙ sym (map-append tail-of ls (l ∷ []));
       lists = omega arith;
       fragments = omega arith;
-      known = all-join (λ m. m .id ≤ id) ls (l ∷ []) (all-map (λ l. l .id ≤ y .highest) (λ l. l .id ≤ id) ls (λ l x. omega arith) (d .known)) (omega arith, tt);
+      known = all-append (λ m. m .id ≤ id) ls (l ∷ []) (all-weaker (λ l. l .id ≤ y .highest) (λ l. l .id ≤ id) (λ l x. omega arith) ls (d .known)) (omega arith, tt);
     }
 
 -- BRANCH
@@ -365,7 +367,7 @@ branch-step c s y ls list id payload first-id first d f i k j l0 v m =
         let T : List ℕ = touch (l .id) (y .touched) in
         let ct : Counting s T (y .highest) (pre ++ (p .list ∷ post)) = counting-push s (y .touched) (y .highest) pre l (p .list) post (d0 .body .ids-differ) (p .same)
             (ap length (p .nodes) ∙ length-append (l .nodes) (n ∷ [])) (subst (λ z. Counting s (y .touched) (y .highest) z) e (d .counting)) in
-        let kn : All (λ m. m .id ≤ y .highest) (pre ++ (p .list ∷ post)) = all-join (λ m. m .id ≤ y .highest) pre (p .list ∷ post) u0 (subst (λ z. z ≤ y .highest) (sym (p .same)) top, u1 .1) in
+        let kn : All (λ m. m .id ≤ y .highest) (pre ++ (p .list ∷ post)) = all-append (λ m. m .id ≤ y .highest) pre (p .list ∷ post) u0 (subst (λ z. z ≤ y .highest) (sym (p .same)) top, u1 .1) in
         let ct2 : Counting s (touch (y .highest + 1) T) (y .highest + 1) ms
             = subst (λ z. Counting s (touch (y .highest + 1) T) (y .highest + 1) z) (append-assoc pre (p .list ∷ post) (l2 ∷ [])) (counting-list s T (y .highest) (pre ++ (p .list ∷ post)) l2 kn refl refl ct) in
         let tq : with-node (y1 (l .id)) (l .id) new .layout .touched ≡ touch (y .highest + 1) T
@@ -383,7 +385,7 @@ branch-step c s y ls list id payload first-id first d f i k j l0 v m =
               let g1 = pushed-holds c1 s (y1 (l .id)) pre l (post ++ (l2 ∷ [])) new (λ p. referring-of p id 2 fresh payload) (with-node (y1 (l .id)) (l .id) new) X x d2 a2 p (λ z. branch-holds c1 z id E payload) in
               let g2 : map (holds c1) (nodes-of (pre ++ (l ∷ (post ++ (l2 ∷ [])))) x) ≡ A ++ cond (eqb (y .highest + 1) x) (Y ∷ []) []
                   = ap (λ (z : List NodeList). map (holds c1) (nodes-of z x)) (sym (append-assoc pre (l ∷ post) (l2 ∷ [])))
-                  ∙ list-holds c c1 (pre ++ (l ∷ post)) l2 Y x (all-map (λ m. m .id ≤ y .highest) (λ m. m .id ≢ y .highest + 1) (pre ++ (l ∷ post)) (λ m z w. omega arith) (d0 .known))
+                  ∙ list-holds c c1 (pre ++ (l ∷ post)) l2 Y x (all-weaker (λ m. m .id ≤ y .highest) (λ m. m .id ≢ y .highest + 1) (λ m z w. omega arith) (pre ++ (l ∷ post)) (d0 .known))
                     (ap (λ (z : Content). z ∷ []) (plain-holds c1 (E + 16) first-id first)) (longer-held c s y (pre ++ (l ∷ post)) (nf ++ pad) x d0)
                   ∙ ap (λ (z : List NodeList). map (holds c) (nodes-of z x) ++ cond (eqb (y .highest + 1) x) (Y ∷ []) []) (sym e) in
               g1 ∙ ap (λ (z : List Content). z ++ cond (eqb (l .id) x) (X ∷ []) []) g2 ∙ either-sum A X Y (l .id) (y .highest + 1) x (omega arith);

@@ -11,6 +11,7 @@ use lib.ListN.{length}
 use Rattle.std.specs.shelf.Lists.{All}
 use Rattle.std.proofs.shelf.Lists.{append-assoc, map-append}
 use Rattle.std.proofs.shelf.Tests.{cases-bool}
+use Rattle.std.proofs.shelf.Elements.{all-append, all-weaker}
 use Rattle.model.specs.declared.types.Span.{Span}
 use Rattle.model.specs.Bytes.{written, applied, Same}
 use Rattle.model.specs.References.{span, end-of, present, span-bytes}
@@ -19,9 +20,11 @@ use Rattle.model.specs.Nodes.{Node, referring}
 use Rattle.model.specs.ListFragments.{nodes-to, new-fragment}
 use Rattle.model.specs.Section.{NodeList, Section, last-of, list-fragments}
 use Rattle.model.specs.Means.{Apart, Pairwise, Inside, Spread, within, across, Stands, data-spans, Means}
+use Rattle.meaning.proofs.Base.{all-front, pairs-split}
+use Rattle.meaning.proofs.Members.{flat-append}
 use Rattle.commits.specs.Around.{Around}
 use Rattle.commits.specs.Body.{Right, Body, Tied, with-one, with-fragment, last-fragment, up-to}
-use Rattle.commits.proofs.Rows.{all-front, all-join, all-between, all-map, all-both, pair-front, pair-between, pair-instead, flat-row, all-flat, flat-all, flat-instead}
+use Rattle.commits.proofs.Rows.{all-between, all-both, pair-between, pair-instead, all-flat, flat-all, flat-instead}
 use Rattle.commits.proofs.PartKept.{other-same, part-kept, ahead-other}
 use Rattle.commits.proofs.NodeAdded.{Made, fits-list, spill-list, ended}
 
@@ -30,9 +33,9 @@ pub body-means : (b : List ℕ) (s : Section) → Means b s → Body b (s .heade
 body-means b s m = (record {
   whole = m .header .stored;
   least = m .header .least;
-  lists = all-map (Stands b (s .header) (s .log)) (Right b (s .header)) (s .lists) (λ l x. record { part = x .part; ends = x .ends }) (m .lists);
+  lists = all-weaker (Stands b (s .header) (s .log)) (Right b (s .header)) (λ l x. record { part = x .part; ends = x .ends }) (s .lists) (m .lists);
   ids-differ = m .ids-differ;
-  log-inside = all-map (Inside 12 (s .header .end)) (λ f. end-of f ≤ s .header .end) (s .log .fragments) (λ f x. x .1) (m .log .part .inside);
+  log-inside = all-weaker (Inside 12 (s .header .end)) (λ f. end-of f ≤ s .header .end) (λ f x. x .1) (s .log .fragments) (m .log .part .inside);
   apart = m .fragments-apart;
   data-inside = m .data-inside;
   data-apart = m .data-apart;
@@ -58,18 +61,18 @@ own b h gs pre l post r (p0, p) =
     let B = list-fragments post in
     let fs = l .fragments in
     let g = last-fragment l in
-    let (x0, p1, x1) = pair-front Apart gs (list-fragments (pre ++ (l ∷ post))) p in
-    let p2 : Pairwise Apart (A ++ (fs ++ B)) = subst (λ z. Pairwise Apart z) (flat-row (λ (m : NodeList). m .fragments) pre (l ∷ post)) p1 in
-    let (x2, p3, a1) = pair-front Apart A (fs ++ B) p2 in
-    let (p4, x3, a2) = pair-front Apart fs B p3 in
-    let k1 : All (Apart g) A = all-map (λ x. All (Apart x) (fs ++ B)) (Apart g) A (λ x u. apart-sym x g (spread-last b (Apart x) (span 0 0) (r .part .spread) (all-front (Apart x) fs B u .0))) a1 in
+    let (x0, p1, x1) = pairs-split Apart gs (list-fragments (pre ++ (l ∷ post))) p in
+    let p2 : Pairwise Apart (A ++ (fs ++ B)) = subst (λ z. Pairwise Apart z) (flat-append (λ (m : NodeList). m .fragments) pre (l ∷ post)) p1 in
+    let (x2, p3, a1) = pairs-split Apart A (fs ++ B) p2 in
+    let (p4, x3, a2) = pairs-split Apart fs B p3 in
+    let k1 : All (Apart g) A = all-weaker (λ x. All (Apart x) (fs ++ B)) (Apart g) (λ x u. apart-sym x g (spread-last b (Apart x) (span 0 0) (r .part .spread) (all-front (Apart x) fs B u .0))) A a1 in
     let k2 : All (Apart g) B = spread-last b (λ x. All (Apart x) B) (span 0 0) (r .part .spread) a2 in
     let L : List Span = list-fragments (pre ++ (l ∷ post)) in
     let from : (x : Span) → All (Apart x) L → Apart g x = λ x u.
-        let v : All (Apart x) (A ++ (fs ++ B)) = subst (λ z. All (Apart x) z) (flat-row (λ (m : NodeList). m .fragments) pre (l ∷ post)) u in
+        let v : All (Apart x) (A ++ (fs ++ B)) = subst (λ z. All (Apart x) z) (flat-append (λ (m : NodeList). m .fragments) pre (l ∷ post)) u in
         apart-sym x g (spread-last b (Apart x) (span 0 0) (r .part .spread) (all-front (Apart x) fs B (all-front (Apart x) A (fs ++ B) v .1) .0)) in
     (p4, all-flat (Apart g) (λ (m : NodeList). m .fragments) pre k1, all-flat (Apart g) (λ (m : NodeList). m .fragments) post k2,
-    (from header-span (all-front (Apart header-span) gs L p0 .1), all-map (λ x. All (Apart x) L) (Apart g) gs from x1), from)
+    (from header-span (all-front (Apart header-span) gs L p0 .1), all-weaker (λ x. All (Apart x) L) (Apart g) from gs x1), from)
 
 -- the bytes of a fragment are the same
 abbrev pub Kept : List ℕ → List ℕ → Span → Type 0
@@ -100,8 +103,8 @@ data-push P pre l l′ post n e a c =
     let (x, y) = all-front (λ m. All P (references m)) pre (l ∷ post) (all-flat P references (pre ++ (l ∷ post)) a) in
     let q : references l′ ≡ references l ++ map (λ m. m .reference) (referring 1 (n ∷ []))
         = ap (λ (z : List Node). map (λ m. m .reference) (referring 1 z)) e ∙ ap (λ (z : List Node). map (λ m. m .reference) z) (referring-row 1 (l .nodes) (n ∷ [])) ∙ map-append (λ (m : Node). m .reference) (referring 1 (l .nodes)) (referring 1 (n ∷ [])) in
-    flat-all P references (pre ++ (l′ ∷ post)) (all-join (λ m. All P (references m)) pre (l′ ∷ post) x
-      (subst (λ z. All P z) (sym q) (all-join P (references l) (map (λ m. m .reference) (referring 1 (n ∷ []))) (y .0) c), y .1))
+    flat-all P references (pre ++ (l′ ∷ post)) (all-append (λ m. All P (references m)) pre (l′ ∷ post) x
+      (subst (λ z. All P z) (sym q) (all-append P (references l) (map (λ m. m .reference) (referring 1 (n ∷ []))) (y .0) c), y .1))
 
 -- it fits ------------------------------------------------------------------------------------------------------------
 
@@ -128,16 +131,16 @@ body-fits b h gs pre l post new n m d k w =
     (record {
       whole = o .after;
       least = d .least;
-      lists = all-join (Right c h) pre (l′ ∷ post) (others b c h h g (l .free) pre o (omega arith) a0 r0)
+      lists = all-append (Right c h) pre (l′ ∷ post) (others b c h h g (l .free) pre o (omega arith) a0 r0)
           (record { part = p; ends = omega arith }, others b c h h g (l .free) post o (omega arith) a1 (r1 .1));
       ids-differ = pair-instead (λ l m. l .id ≢ m .id) pre l l′ post (λ x q. q) (λ x q. q) (d .ids-differ);
       log-inside = d .log-inside;
       apart = subst (λ z. Pairwise Apart (header-span ∷ (gs ++ z))) (sym e) (d .apart);
       data-inside = data-push (λ r. end-of r ≤ h .end) pre l l′ post (n (l .free)) refl (d .data-inside)
-          (all-map (Data-fits h gs (pre ++ (l ∷ post))) (λ r. end-of r ≤ h .end) refs (λ r x. x .0) w);
+          (all-weaker (Data-fits h gs (pre ++ (l ∷ post))) (λ r. end-of r ≤ h .end) (λ r x. x .0) refs w);
       data-apart = subst (λ z. All (λ r. All (Apart r) (header-span ∷ (gs ++ z))) (data-spans (pre ++ (l′ ∷ post)))) (sym e)
           (data-push (λ r. All (Apart r) (header-span ∷ (gs ++ list-fragments (pre ++ (l ∷ post))))) pre l l′ post (n (l .free)) refl (d .data-apart)
-          (all-map (Data-fits h gs (pre ++ (l ∷ post))) (λ r. All (Apart r) (header-span ∷ (gs ++ list-fragments (pre ++ (l ∷ post))))) refs (λ r x. x .1) w));
+          (all-weaker (Data-fits h gs (pre ++ (l ∷ post))) (λ r. All (Apart r) (header-span ∷ (gs ++ list-fragments (pre ++ (l ∷ post))))) (λ r x. x .1) refs w));
     }, all-both (Apart g) (λ f. end-of f ≤ h .end) (Kept b c) (header-span ∷ gs) (λ f u v. other-same b c (h .end) g (l .free) o f u v) a2 (d .least, d .log-inside),
     λ r x. other-same b c (h .end) g (l .free) o r (away r (all-front (Apart r) gs (list-fragments (pre ++ (l ∷ post))) (x .1 .1) .1)) (x .0))
 
@@ -146,10 +149,9 @@ body-fits b h gs pre l post new n m d k w =
 -- every fragment ends by the end
 pub all-by-end : (b : List ℕ) (h : Header) (gs : List Span) (ls : List NodeList) → Body b h gs ls → All (λ f. end-of f ≤ h .end) (header-span ∷ (gs ++ list-fragments ls))
 all-by-end b h gs ls d =
-    (d .least, all-join (λ f. end-of f ≤ h .end) gs (list-fragments ls) (d .log-inside)
+    (d .least, all-append (λ f. end-of f ≤ h .end) gs (list-fragments ls) (d .log-inside)
       (flat-all (λ f. end-of f ≤ h .end) (λ (m : NodeList). m .fragments) ls
-      (all-map (Right b h) (λ m. All (λ f. end-of f ≤ h .end) (m .fragments)) ls
-      (λ m x. all-map (Inside 36 (h .end)) (λ f. end-of f ≤ h .end) (m .fragments) (λ f y. y .1) (x .part .inside)) (d .lists))))
+      (all-weaker (Right b h) (λ m. All (λ f. end-of f ≤ h .end) (m .fragments)) (λ m x. all-weaker (Inside 36 (h .end)) (λ f. end-of f ≤ h .end) (λ f y. y .1) (m .fragments) (x .part .inside)) ls (d .lists))))
 
 -- what stands behind the end is apart from what ends by it
 pub past-apart : (e : ℕ) (f r : Span) → e ≤ f .start → end-of r ≤ e → Apart r f
@@ -159,13 +161,13 @@ past-apart e f r h k i (x, y) (z, w) = omega arith
 pub row-old : (gs : List Span) (pre : List NodeList) (l : NodeList) (post : List NodeList)
     → header-span ∷ (gs ++ list-fragments (pre ++ (l ∷ post))) ≡ (header-span ∷ (gs ++ (list-fragments pre ++ l .fragments))) ++ list-fragments post
 row-old gs pre l post = ap (λ z. header-span ∷ z)
-    (ap (λ z. gs ++ z) (flat-row (λ (m : NodeList). m .fragments) pre (l ∷ post) ∙ sym (append-assoc (list-fragments pre) (l .fragments) (list-fragments post)))
+    (ap (λ z. gs ++ z) (flat-append (λ (m : NodeList). m .fragments) pre (l ∷ post) ∙ sym (append-assoc (list-fragments pre) (l .fragments) (list-fragments post)))
     ∙ sym (append-assoc gs (list-fragments pre ++ l .fragments) (list-fragments post)))
 
 pub row-new : (gs : List Span) (pre : List NodeList) (l l′ : NodeList) (post : List NodeList) (f : Span) → l′ .fragments ≡ l .fragments ++ (f ∷ [])
     → header-span ∷ (gs ++ list-fragments (pre ++ (l′ ∷ post))) ≡ (header-span ∷ (gs ++ (list-fragments pre ++ l .fragments))) ++ (f ∷ list-fragments post)
 row-new gs pre l l′ post f e = ap (λ z. header-span ∷ z)
-    (ap (λ z. gs ++ z) (flat-row (λ (m : NodeList). m .fragments) pre (l′ ∷ post)
+    (ap (λ z. gs ++ z) (flat-append (λ (m : NodeList). m .fragments) pre (l′ ∷ post)
       ∙ ap (λ z. list-fragments pre ++ z) (ap (λ z. z ++ list-fragments post) e ∙ append-assoc (l .fragments) (f ∷ []) (list-fragments post))
       ∙ sym (append-assoc (list-fragments pre) (l .fragments) (f ∷ list-fragments post)))
     ∙ sym (append-assoc gs (list-fragments pre ++ l .fragments) (f ∷ list-fragments post)))
@@ -185,7 +187,7 @@ row-pairs gs pre l l′ post f e a p =
     let B : List Span = list-fragments post in
     let (u, v) = all-front (λ x. Apart x f) X B (subst (λ z. All (λ x. Apart x f) z) (row-old gs pre l post) a) in
     subst (λ z. Pairwise Apart z) (sym (row-new gs pre l l′ post f e))
-      (pair-between Apart X f B (subst (λ z. Pairwise Apart z) (row-old gs pre l post) p) u (all-map (λ x. Apart x f) (Apart f) B (λ x y. apart-sym x f y) v))
+      (pair-between Apart X f B (subst (λ z. Pairwise Apart z) (row-old gs pre l post) p) u (all-weaker (λ x. Apart x f) (Apart f) (λ x y. apart-sym x f y) B v))
 
 pub last-push : {A : Type 0} (d : A) (xs : List A) (x : A) → last-of d (xs ++ (x ∷ [])) ≡ x
 last-push d [] x = refl
@@ -220,13 +222,12 @@ body-spill b h e gs pre l post new pad n m d k u i j w =
     (record {
       whole = omega arith;
       least = omega (arith, d .least);
-      lists = all-join (Right c h′) pre (l′ ∷ post) (others b c h h′ g (l .free) pre o (omega arith) a0 r0)
+      lists = all-append (Right c h′) pre (l′ ∷ post) (others b c h h′ g (l .free) pre o (omega arith) a0 r0)
           (record { part = p; ends = rw q (omega (arith, m .some)) }, others b c h h′ g (l .free) post o (omega arith) a1 (r1 .1));
       ids-differ = pair-instead (λ l m. l .id ≢ m .id) pre l l′ post (λ x y. y) (λ x y. y) (d .ids-differ);
-      log-inside = all-map (λ f. end-of f ≤ E) (λ f. end-of f ≤ e) gs (λ f x. omega arith) (d .log-inside);
-      apart = row-pairs gs pre l l′ post fresh refl (all-map (λ f. end-of f ≤ E) (λ x. Apart x fresh) F (λ x y. past-apart E fresh x (omega arith) y) by-end) (d .apart);
-      data-inside = all-map (λ r. (end-of r ≤ E) × All (Apart r) F) (λ r. end-of r ≤ e) (data-spans (pre ++ (l′ ∷ post))) (λ r x. omega (arith, x .0)) grown;
-      data-apart = all-map (λ r. (end-of r ≤ E) × All (Apart r) F) (λ r. All (Apart r) (header-span ∷ (gs ++ list-fragments (pre ++ (l′ ∷ post))))) (data-spans (pre ++ (l′ ∷ post)))
-          (λ r x. row-all (Apart r) gs pre l l′ post fresh refl (past-apart E fresh r (omega arith) (x .0)) (x .1)) grown;
+      log-inside = all-weaker (λ f. end-of f ≤ E) (λ f. end-of f ≤ e) (λ f x. omega arith) gs (d .log-inside);
+      apart = row-pairs gs pre l l′ post fresh refl (all-weaker (λ f. end-of f ≤ E) (λ x. Apart x fresh) (λ x y. past-apart E fresh x (omega arith) y) F by-end) (d .apart);
+      data-inside = all-weaker (λ r. (end-of r ≤ E) × All (Apart r) F) (λ r. end-of r ≤ e) (λ r x. omega (arith, x .0)) (data-spans (pre ++ (l′ ∷ post))) grown;
+      data-apart = all-weaker (λ r. (end-of r ≤ E) × All (Apart r) F) (λ r. All (Apart r) (header-span ∷ (gs ++ list-fragments (pre ++ (l′ ∷ post))))) (λ r x. row-all (Apart r) gs pre l l′ post fresh refl (past-apart E fresh r (omega arith) (x .0)) (x .1)) (data-spans (pre ++ (l′ ∷ post))) grown;
     }, all-both (Apart g) (λ f. end-of f ≤ E) (Kept b c) (header-span ∷ gs) (λ f u v. other-same b c E g (l .free) o f u v) a2 (d .least, d .log-inside),
     λ r x. other-same b c E g (l .free) o r (away r (all-front (Apart r) gs (list-fragments (pre ++ (l ∷ post))) (x .1 .1) .1)) (x .0))

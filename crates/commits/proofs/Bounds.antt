@@ -11,6 +11,7 @@ use lib.ListN.{length, getD}
 use Rattle.std.specs.shelf.Lists.{All}
 use Rattle.std.proofs.shelf.Lists.{append-nil}
 use Rattle.std.proofs.shelf.Tests.{cases-bool}
+use Rattle.std.proofs.shelf.Elements.{all-append, all-weaker}
 use Rattle.model.specs.declared.types.Span.{Span}
 use Rattle.model.specs.declared.types.Entry.{Entry}
 use Rattle.model.specs.Bytes.{le, Bytes}
@@ -20,7 +21,7 @@ use Rattle.model.specs.Section.{Log, NodeList, Section, flat, latest, count-in}
 use Rattle.model.specs.Nodes.{Node}
 use Rattle.model.specs.Means.{entries-of, log-row, closed, Logs, Numbered, Spread, within, across, Stands, Means}
 use Rattle.model.specs.Layouts.{Tail, tail-of, greatest, blank}
-use Rattle.commits.proofs.Rows.{all-front, all-join, all-map}
+use Rattle.meaning.proofs.Base.{all-front}
 use Rattle.commits.proofs.FragmentBack.{Small}
 
 byte-below : (b : List ℕ) (i : ℕ) → Bytes b → getD b i 0 < 256
@@ -45,13 +46,13 @@ entries-small b f i (suc n) a = ((le-below 4 b (entry-place f i) a, le-below 4 b
 row-small : (b : List ℕ) (fs : List Span) (used : ℕ) → Bytes b → All Small (log-row b fs used)
 row-small b [] used a = tt
 row-small b (f ∷ []) used a = entries-small b f 0 used a
-row-small b (f ∷ (g ∷ gs)) used a = all-join Small (entries-of b f 0 (entries-in (f .size))) (log-row b (g ∷ gs) used) (entries-small b f 0 (entries-in (f .size)) a) (row-small b (g ∷ gs) used a)
+row-small b (f ∷ (g ∷ gs)) used a = all-append Small (entries-of b f 0 (entries-in (f .size))) (log-row b (g ∷ gs) used) (entries-small b f 0 (entries-in (f .size)) a) (row-small b (g ∷ gs) used a)
 
 opened-small : (ts : List (List Entry)) → All Small (flat (map closed ts)) → All Small (flat ts)
 opened-small [] a = tt
 opened-small (t ∷ ts) a =
     let (x, y) = all-front Small (closed t) (flat (map closed ts)) a in
-    all-join Small t (flat ts) (all-front Small t (sentinel t ∷ []) x .0) (opened-small ts y)
+    all-append Small t (flat ts) (all-front Small t (sentinel t ∷ []) x .0) (opened-small ts y)
 
 pub log-small : (b : List ℕ) (h : Header) (l : Log) → Bytes b → Logs b h l → All Small (flat (l .transactions))
 log-small b h l a g =
@@ -81,15 +82,14 @@ greatest-below f (x ∷ xs) (p, a) = let r = greatest-below f xs a in omega arit
 pub blank-highest : (b : List ℕ) (s : Section) → Bytes b → Means b s → blank s .highest < 2 ^ 32
 blank-highest b s a m =
     let sm = log-small b (s .header) (s .log) a (m .log) in
-    let x = greatest-below (λ (e : Entry). e .source) (flat (s .log .transactions)) (all-map Small (λ e. e .source < 2 ^ 32) (flat (s .log .transactions)) (λ e q. q .0) sm) in
-    let y = greatest-below (λ (l : NodeList). l .id) (s .lists) (all-map (Stands b (s .header) (s .log)) (λ l. l .id < 2 ^ 32) (s .lists) (λ l k. spread-first b b (l .id) 0 a (k .part .spread) (k .part .marks)) (m .lists)) in
+    let x = greatest-below (λ (e : Entry). e .source) (flat (s .log .transactions)) (all-weaker Small (λ e. e .source < 2 ^ 32) (λ e q. q .0) (flat (s .log .transactions)) sm) in
+    let y = greatest-below (λ (l : NodeList). l .id) (s .lists) (all-weaker (Stands b (s .header) (s .log)) (λ l. l .id < 2 ^ 32) (λ l k. spread-first b b (l .id) 0 a (k .part .spread) (k .part .marks)) (s .lists) (m .lists)) in
     omega arith
 
 pub blank-counts : (b : List ℕ) (s : Section) → Bytes b → Means b s → All (λ t. t .count < 2 ^ 32) (blank s .tails)
 blank-counts b s a m =
     let sm = log-small b (s .header) (s .log) a (m .log) in
-    each (s .lists) (all-map (Stands b (s .header) (s .log)) (λ l. length (l .nodes) < 2 ^ 32) (s .lists)
-      (λ l k. subst (λ z. z < 2 ^ 32) (sym (k .counted)) (latest-small (l .id) 0 (flat (s .log .transactions)) (omega arith) sm)) (m .lists))
+    each (s .lists) (all-weaker (Stands b (s .header) (s .log)) (λ l. length (l .nodes) < 2 ^ 32) (λ l k. subst (λ z. z < 2 ^ 32) (sym (k .counted)) (latest-small (l .id) 0 (flat (s .log .transactions)) (omega arith) sm)) (s .lists) (m .lists))
   where
     each : (ls : List NodeList) → All (λ l. length (l .nodes) < 2 ^ 32) ls → All (λ t. t .count < 2 ^ 32) (map tail-of ls)
     each [] a = tt

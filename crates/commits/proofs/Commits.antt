@@ -9,6 +9,7 @@ use lib.ListN.{length, take}
 use Rattle.std.specs.shelf.Lists.{All}
 use Rattle.std.proofs.shelf.Lists.{ext-getD, length-take, getD-take}
 use Rattle.std.proofs.shelf.Tests.{cases-lt}
+use Rattle.std.proofs.shelf.Elements.{all-weaker}
 use Rattle.model.specs.declared.types.Span.{Span}
 use Rattle.model.specs.declared.types.Entry.{Entry}
 use Rattle.model.specs.Bytes.{Write, put, written, applied, Same}
@@ -20,13 +21,14 @@ use Rattle.model.specs.Means.{Apart, Pairwise, Inside, Headed, entries-of, clos
 use Rattle.model.specs.Committing.{header-write}
 use Rattle.meaning.proofs.Frames.{le-in, piece-in}
 use Rattle.meaning.proofs.Local.{Agree, spread-local, span-local}
+use Rattle.meaning.proofs.Base.{all-front, pairs-split}
 use Rattle.commits.specs.Stored.{Stored}
 use Rattle.commits.specs.Body.{Right, Body, Tied, up-to}
 use Rattle.commits.proofs.Sizes.{length-entry-bytes}
 use Rattle.commits.proofs.Store.{length-written, written-below, written-above, stored-written, same-written}
 use Rattle.commits.proofs.FragmentBack.{Small, entries-back}
 use Rattle.commits.proofs.HeadBack.{headed, header-back, head-rest}
-use Rattle.commits.proofs.Rows.{all-front, all-map, all-both, pair-front, all-flat, flat-all, last-all}
+use Rattle.commits.proofs.Rows.{all-both, all-flat, flat-all, last-all}
 use Rattle.commits.proofs.PartKept.{marked-same, spread-ends, inside-more}
 use Rattle.commits.proofs.Bodies.{Kept}
 use Rattle.commits.proofs.LogAdded.{Log-agree, Follows, log-fits, row-local, chain-local, log-some, split-log, next-inside}
@@ -67,9 +69,9 @@ body-same b c h h′ gs ls d x y k =
       least = omega (arith, d .least);
       lists = all-both (λ l. All (Kept b c) (l .fragments)) (Right b h) (Right c h′) ls (λ l u v. right-same b c h h′ l bl (omega arith) x u v) (all-flat (Kept b c) (λ (m : NodeList). m .fragments) ls k) (d .lists);
       ids-differ = d .ids-differ;
-      log-inside = all-map (λ f. end-of f ≤ h .end) (λ f. end-of f ≤ h′ .end) gs (λ f u. omega arith) (d .log-inside);
+      log-inside = all-weaker (λ f. end-of f ≤ h .end) (λ f. end-of f ≤ h′ .end) (λ f u. omega arith) gs (d .log-inside);
       apart = d .apart;
-      data-inside = all-map (λ r. end-of r ≤ h .end) (λ r. end-of r ≤ h′ .end) (data-spans ls) (λ r u. omega arith) (d .data-inside);
+      data-inside = all-weaker (λ r. end-of r ≤ h .end) (λ r. end-of r ≤ h′ .end) (λ r u. omega arith) (data-spans ls) (d .data-inside);
       data-apart = d .data-apart;
     }
 
@@ -141,8 +143,8 @@ commit-head c s log ls end guid a g u v w l d t k x y =
     let (e, r) = head-rest c (s .header) end guid (a .whole) g in
     let wh = d .whole in
     let (p0, p1) = all-front (Apart header-span) (log .fragments) lf (d .apart .0) in
-    let k1 : All (Kept c c2) lf = all-map (Apart header-span) (Kept c c2) lf (λ f z. head-kept c c2 f r z) p1 in
-    let k2 : All (Kept c c2) (log .fragments) = all-map (Apart header-span) (Kept c c2) (log .fragments) (λ f z. head-kept c c2 f r z) p0 in
+    let k1 : All (Kept c c2) lf = all-weaker (Apart header-span) (Kept c c2) (λ f z. head-kept c c2 f r z) lf p1 in
+    let k2 : All (Kept c c2) (log .fragments) = all-weaker (Apart header-span) (Kept c c2) (λ f z. head-kept c c2 f r z) (log .fragments) p0 in
     means-from c2 H log ls (header-back c (s .header) end guid a g u v (d .least) w wh) (logs-same c c2 H log k2 l) (body-same c c2 H H (log .fragments) ls d (omega arith) (omega arith) k1) t k x y
 
 -- HEADER, in another row that has its bytes

@@ -23,7 +23,7 @@ use Rattle.model.specs.Looks.{nodes-of, reference-of, data-of}
 use Rattle.model.specs.Layouts.{Layout}
 use Rattle.model.specs.Contents.{Content, content-of, holds}
 use Rattle.meaning.proofs.Frames.{piece-in}
-use Rattle.commits.proofs.Rows.{all-front}
+use Rattle.meaning.proofs.Base.{all-front}
 use Rattle.commits.proofs.NodeBack.{plain-of, referring-of}
 use Rattle.commits.proofs.Bodies.{Kept, references}
 

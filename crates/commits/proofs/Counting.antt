@@ -12,13 +12,15 @@ use Rattle.std.specs.shelf.Lists.{All}
 use Rattle.std.proofs.shelf.Lists.{append-assoc, append-nil, map-append}
 use Rattle.std.proofs.shelf.Tests.{cases-bool}
 use Rattle.std.proofs.shelf.Ways.{tells}
+use Rattle.std.proofs.shelf.Elements.{all-append, all-weaker}
 use Rattle.model.specs.declared.types.Entry.{Entry}
 use Rattle.model.specs.LogFragments.{entry}
 use Rattle.model.specs.Section.{NodeList, Section, flat, latest, count-in}
 use Rattle.model.specs.Means.{Pairwise, Counts-lists, Rising}
 use Rattle.model.specs.Layouts.{member, touch}
+use Rattle.meaning.proofs.Base.{all-front, pairs-split}
 use Rattle.commits.proofs.Ties.{map-instead}
-use Rattle.commits.proofs.Rows.{all-front, all-join, all-map, all-both, pair-front, pair-between}
+use Rattle.commits.proofs.Rows.{all-both, pair-between}
 
 -- touched IDs --------------------------------------------------------------------------------------------------------
 
@@ -87,10 +89,10 @@ pub counts-push : (ts : List (List Entry)) (ids : List ℕ) (pre : List NodeList
     → l′ .id ≡ l .id → length (l′ .nodes) ≡ length (l .nodes) + 1 → All (Counts ts ids) (pre ++ (l ∷ post)) → All (Counts ts (touch (l .id) ids)) (pre ++ (l′ ∷ post))
 counts-push ts ids pre l l′ post d e n a =
     let (a0, a1) = all-front (Counts ts ids) pre (l ∷ post) a in
-    let (d0, d1, d2) = pair-front (λ l m. l .id ≢ m .id) pre (l ∷ post) d in
+    let (d0, d1, d2) = pairs-split (λ l m. l .id ≢ m .id) pre (l ∷ post) d in
     let c = counts-most ts ids l (a1 .0) in
     let own : Counts ts (touch (l .id) ids) l′ = inl (ap (λ z. member z (touch (l .id) ids)) e ∙ touch-same (l .id) ids, subst (λ z. count-in ts z < length (l′ .nodes)) (sym e) (omega arith)) in
-    all-join (Counts ts (touch (l .id) ids)) pre (l′ ∷ post)
+    all-append (Counts ts (touch (l .id) ids)) pre (l′ ∷ post)
       (all-both (λ m. All (λ k. m .id ≢ k .id) (l ∷ post)) (Counts ts ids) (Counts ts (touch (l .id) ids)) pre (λ m u v. counts-other ts (l .id) ids m (u .0) v) d2 a0)
       (own, all-both (λ m. l .id ≢ m .id) (Counts ts ids) (Counts ts (touch (l .id) ids)) post (λ m u v. counts-other ts (l .id) ids m (λ z. u (sym z)) v) (d1 .0) (a1 .1))
 
@@ -98,7 +100,7 @@ counts-push ts ids pre l l′ post d e n a =
 pub counts-list : (ts : List (List Entry)) (ids : List ℕ) (ls : List NodeList) (l : NodeList) → All (λ m. m .id ≢ l .id) ls → count-in ts (l .id) < length (l .nodes) → All (Counts ts ids) ls
     → All (Counts ts (touch (l .id) ids)) (ls ++ (l ∷ []))
 counts-list ts ids ls l d n a =
-    all-join (Counts ts (touch (l .id) ids)) ls (l ∷ [])
+    all-append (Counts ts (touch (l .id) ids)) ls (l ∷ [])
       (all-both (λ m. m .id ≢ l .id) (Counts ts ids) (Counts ts (touch (l .id) ids)) ls (λ m u v. counts-other ts (l .id) ids m u v) d a)
       (inl (touch-same (l .id) ids, n), tt)
 
@@ -179,7 +181,7 @@ pub record Counting (s : Section) (ids : List ℕ) (highest : ℕ) (ls : List No
 touch-all : (P : ℕ → Type 0) (id : ℕ) (ids : List ℕ) → P id → All P ids → All P (touch id ids)
 touch-all P id ids p a = elim (cases-bool (member id ids)) [
   | inl e ↦ rw e a
-  | inr e ↦ rw e (all-join P ids (id ∷ []) a (p, tt))
+  | inr e ↦ rw e (all-append P ids (id ∷ []) a (p, tt))
 ]
 
 member-left : (x : ℕ) (xs ys : List ℕ) → member x xs ≡ true → member x (xs ++ ys) ≡ true
@@ -230,7 +232,7 @@ counting-list s ids highest ls l d e n c =
       once = touch-once (l .id) ids (c .once);
       known = subst (λ z. All (λ id. member id z ≡ true) (touch (l .id) ids)) (sym q) (touch-all (λ id. member id (map (λ l. l .id) ls ++ (l .id ∷ [])) ≡ true) (l .id) ids
           (member-right (l .id) (map (λ l. l .id) ls) (l .id ∷ []) (let w : eqb (l .id) (l .id) ≡ true = grind (arith, tells) in rw w))
-          (all-map (λ id. member id (map (λ l. l .id) ls) ≡ true) (λ id. member id (map (λ l. l .id) ls ++ (l .id ∷ [])) ≡ true) ids (λ id x. member-left id (map (λ l. l .id) ls) (l .id ∷ []) x) (c .known)));
-      counts = counts-list (s .log .transactions) ids ls l (all-map (λ m. m .id ≤ highest) (λ m. m .id ≢ l .id) ls (λ m x y. omega arith) d) (omega arith) (c .counts);
-      sources = all-map (λ e. e .source ≤ highest) (λ e. e .source ≤ highest + 1) (flat (s .log .transactions)) (λ e x. omega arith) (c .sources);
+          (all-weaker (λ id. member id (map (λ l. l .id) ls) ≡ true) (λ id. member id (map (λ l. l .id) ls ++ (l .id ∷ [])) ≡ true) (λ id x. member-left id (map (λ l. l .id) ls) (l .id ∷ []) x) ids (c .known)));
+      counts = counts-list (s .log .transactions) ids ls l (all-weaker (λ m. m .id ≤ highest) (λ m. m .id ≢ l .id) (λ m x y. omega arith) ls d) (omega arith) (c .counts);
+      sources = all-weaker (λ e. e .source ≤ highest) (λ e. e .source ≤ highest + 1) (λ e x. omega arith) (flat (s .log .transactions)) (c .sources);
     }

@@ -12,6 +12,7 @@ use Rattle.std.specs.shelf.Lists.{All}
 use Rattle.std.proofs.shelf.Lists.{append-assoc, append-nil}
 use Rattle.std.proofs.shelf.Tests.{cases-bool}
 use Rattle.std.proofs.shelf.Ways.{tells}
+use Rattle.std.proofs.shelf.Elements.{all-append, all-weaker}
 use Rattle.model.specs.declared.types.Entry.{Entry}
 use Rattle.model.specs.Bytes.{applied, Bytes}
 use Rattle.model.specs.ListFragments.{nodes-to}
@@ -25,7 +26,6 @@ use Rattle.model.specs.Contents.{Content, holds, saved-by, saved}
 use Rattle.model.specs.Laws.{Done-adds, add-writes}
 use Rattle.meaning.proofs.Base.{Clean}
 use Rattle.commits.proofs.Store.{applied-row}
-use Rattle.commits.proofs.Rows.{all-join, all-map}
 use Rattle.commits.proofs.NodeBack.{Fair}
 use Rattle.commits.proofs.Bodies.{body-means}
 use Rattle.commits.proofs.Layouts.{with-node-highest}
@@ -70,7 +70,7 @@ planned-counts : (y : Layout) (a : Add) → find-tail (planned y a .layout .tail
 unfolding planned
 planned-counts y (plain list id payload) h a = node-counts y list _ h a
 planned-counts y (with-data list id payload content) h a = node-counts _ list _ h a
-planned-counts y (branch list id payload first-id first) h a = node-counts _ list _ h (all-join (λ t. t .count < 2 ^ 32) (y .tails) (_ ∷ []) a (omega arith, tt))
+planned-counts y (branch list id payload first-id first) h a = node-counts _ list _ h (all-append (λ t. t .count < 2 ^ 32) (y .tails) (_ ∷ []) a (omega arith, tt))
 
 fine : (ceiling : ℕ) (y : Layout) (a : Add) → Fine y → Clean (add-checks ceiling y a) → Fine (planned y a .layout)
 fine ceiling y a f c =
@@ -141,18 +141,18 @@ adds-drafted c ceiling s y ls (a ∷ more) d f (u, v, w) =
 greatest-all : (ls : List NodeList) (n : ℕ) → All (λ l. l .id ≤ max n (greatest (map (λ m. m .id) ls))) ls
 unfolding greatest
 greatest-all [] n = tt
-greatest-all (l ∷ ls) n = (omega arith, all-map (λ m. m .id ≤ max n (greatest (map (λ m. m .id) ls))) (λ m. m .id ≤ max n (max (l .id) (greatest (map (λ m. m .id) ls)))) ls (λ m x. omega arith) (greatest-all ls n))
+greatest-all (l ∷ ls) n = (omega arith, all-weaker (λ m. m .id ≤ max n (greatest (map (λ m. m .id) ls))) (λ m. m .id ≤ max n (max (l .id) (greatest (map (λ m. m .id) ls)))) (λ m x. omega arith) ls (greatest-all ls n))
 
 greatest-sources : (es : List Entry) (n : ℕ) → All (λ e. e .source ≤ max (greatest (map (λ x. x .source) es)) n) es
 unfolding greatest
 greatest-sources [] n = tt
-greatest-sources (e ∷ es) n = (omega arith, all-map (λ x. x .source ≤ max (greatest (map (λ x. x .source) es)) n) (λ x. x .source ≤ max (max (e .source) (greatest (map (λ x. x .source) es))) n) es (λ x y. omega arith) (greatest-sources es n))
+greatest-sources (e ∷ es) n = (omega arith, all-weaker (λ x. x .source ≤ max (greatest (map (λ x. x .source) es)) n) (λ x. x .source ≤ max (max (e .source) (greatest (map (λ x. x .source) es))) n) (λ x y. omega arith) es (greatest-sources es n))
 
 blank-counting : (b : List ℕ) (s : Section) → Means b s → Counting s [] (blank s .highest) (s .lists)
 blank-counting b s m = record {
   once = tt;
   known = tt;
-  counts = all-map (Stands b (s .header) (s .log)) (Counts (s .log .transactions) []) (s .lists) (λ l x. inr (refl, x .counted)) (m .lists);
+  counts = all-weaker (Stands b (s .header) (s .log)) (Counts (s .log .transactions) []) (λ l x. inr (refl, x .counted)) (s .lists) (m .lists);
   sources = greatest-sources (flat (s .log .transactions)) _;
 }
 

@@ -12,6 +12,7 @@ use Rattle.std.specs.shelf.Lists.{All}
 use Rattle.std.proofs.shelf.Lists.{length-append, getD-append-left}
 use Rattle.std.proofs.shelf.Tests.{cases-bool}
 use Rattle.std.proofs.shelf.Ways.{tells}
+use Rattle.std.proofs.shelf.Elements.{all-append, all-weaker}
 use Rattle.model.specs.declared.types.Span.{Span}
 use Rattle.model.specs.Bytes.{Write, put, written, applied, behind}
 use Rattle.model.specs.References.{span, span-bytes}
@@ -22,11 +23,12 @@ use Rattle.model.specs.Section.{NodeList, Section, last-of, list-fragments, fir
 use Rattle.model.specs.Means.{Pairwise, Spread, within, across}
 use Rattle.model.specs.Layouts.{Tail, tail, Layout, tail-of, member, touch, find-tail, with-tail, ending-at, more-fragments, touching}
 use Rattle.model.specs.Saving.{Plan, with-node}
+use Rattle.meaning.proofs.Base.{all-front}
 use Rattle.commits.specs.Body.{Right, Body, with-one, with-fragment, last-fragment, up-to}
 use Rattle.commits.specs.Laid.{Laid}
 use Rattle.commits.proofs.Sizes.{length-new-fragment}
 use Rattle.commits.proofs.Store.{applied-row}
-use Rattle.commits.proofs.Rows.{all-front, all-join, all-map, flat-instead}
+use Rattle.commits.proofs.Rows.{flat-instead}
 use Rattle.commits.proofs.NodeAdded.{Made, ended}
 use Rattle.commits.proofs.Bodies.{Kept, Data-fits, body-fits, body-spill, last-push, row-old}
 
@@ -64,7 +66,7 @@ tails-with : (l′ : NodeList) (pre : List NodeList) (l : NodeList) (post : List
     → with-tail (tail-of l′) (map tail-of (pre ++ (l ∷ post))) ≡ map tail-of (pre ++ (l′ ∷ post))
 tails-with l′ [] l post e (a, p) =
     let x : eqb (l .id) (l′ .id) ≡ true = grind (arith, tells) in
-    rw x (ap (λ z. tail-of l′ ∷ z) (tails-other (tail-of l′) post (all-map (λ m. l .id ≢ m .id) (λ m. l′ .id ≢ m .id) post (λ m q r. q (sym e ∙ r)) a)))
+    rw x (ap (λ z. tail-of l′ ∷ z) (tails-other (tail-of l′) post (all-weaker (λ m. l .id ≢ m .id) (λ m. l′ .id ≢ m .id) (λ m q r. q (sym e ∙ r)) post a)))
 tails-with l′ (k ∷ pre) l post e (a, p) =
     let (u, v) = all-front (λ m. k .id ≢ m .id) pre (l ∷ post) a in
     let d = v .0 in
@@ -140,7 +142,7 @@ pushed-fits c s y pre l post new n d a k =
         tails = ap (λ z. with-tail z (y .tails)) (sym t) ∙ ap (λ z. with-tail (tail-of l′) z) (d .tails) ∙ tails-with l′ pre l post refl (d .body .ids-differ);
         lists = d .lists ∙ lengths l′;
         fragments = d .fragments ∙ ap (λ z. length (s .log .fragments ++ z)) (sym e);
-        known = all-join (λ m. m .id ≤ y .highest) pre (l′ ∷ post) u v;
+        known = all-append (λ m. m .id ≤ y .highest) pre (l′ ∷ post) u v;
       };
       rises = omega arith;
       kept = bd .1;
@@ -210,7 +212,7 @@ pushed-spills c s y pre l post new n d a x1 x2 x3 =
         tails = ap (λ z. with-tail z (y .tails)) (sym t) ∙ ap (λ z. with-tail (tail-of l′) z) (d .tails) ∙ tails-with l′ pre l post refl (d .body .ids-differ);
         lists = d .lists ∙ length-append pre (l ∷ post) ∙ sym (length-append pre (l′ ∷ post));
         fragments = omega arith;
-        known = all-join (λ m. m .id ≤ y .highest) pre (l′ ∷ post) u v;
+        known = all-append (λ m. m .id ≤ y .highest) pre (l′ ∷ post) u v;
       };
       rises = omega arith;
       kept = subst (λ z. All (Kept c z) (header-span ∷ gs)) (sym q) (bd .1);

@@ -7,6 +7,7 @@ use native.Mathlib.Omega.{arith}
 use lib.ListN.{length}
 use Rattle.std.specs.shelf.Lists.{All}
 use Rattle.std.proofs.shelf.Lists.{append-assoc, append-nil, length-append}
+use Rattle.std.proofs.shelf.Elements.{all-append, all-weaker}
 use Rattle.model.specs.declared.types.Span.{Span}
 use Rattle.model.specs.declared.types.Entry.{Entry}
 use Rattle.model.specs.Bytes.{le, Same}
@@ -17,7 +18,7 @@ use Rattle.model.specs.Section.{Log, flat, last-of}
 use Rattle.model.specs.Means.{Apart, Pairwise, Inside, Chain, entries-of, log-row, closed, Counts-lists, Rising, Logs}
 use Rattle.meaning.proofs.Frames.{le-in}
 use Rattle.meaning.proofs.Local.{span-local}
-use Rattle.commits.proofs.Rows.{all-join, all-map, pair-between}
+use Rattle.commits.proofs.Rows.{pair-between}
 
 -- frames -----------------------------------------------------------------------------------------------------------
 
@@ -126,7 +127,7 @@ split-log P [] h k = absurd (omega arith)
 split-log P (f ∷ gs) h k = k f gs
 
 inside-later : (end end′ : ℕ) (fs : List Span) → end ≤ end′ → All (Inside 12 end) fs → All (Inside 12 end′) fs
-inside-later end end′ fs h a = all-map (Inside 12 end) (Inside 12 end′) fs (λ f x. (x .0, omega (arith, x .1))) a
+inside-later end end′ fs h a = all-weaker (Inside 12 end) (Inside 12 end′) (λ f x. (x .0, omega (arith, x .1))) fs a
 
 -- LOG, where the entries fit
 pub log-fits : (b c : List ℕ) (h h′ : Header) (l : Log) (t : List Entry) → Logs b h l → Log-agree b c (l .fragments) (l .used) → h .end ≤ h′ .end → h′ .log ≡ h .log → h′ .count ≡ h .count + 1
@@ -151,7 +152,7 @@ log-fits b c h h′ l t g a e r n w p q =
         few = k .few;
         places = p;
         row = more ∙ ap (λ z. z ++ entries-of c (last-of (span 0 0) fs) (l .used) (length (closed t))) row ∙ ap (λ z. flat (map closed ts) ++ z) q ∙ sym (closed-push ts t) ∙ sym (append-nil (flat (map closed (ts ++ (t ∷ [])))));
-        lists = all-join Counts-lists ts (t ∷ []) (k .lists) (w .lists, tt);
+        lists = all-append Counts-lists ts (t ∷ []) (k .lists) (w .lists, tt);
         pending-lists = tt;
         rising = rising-push ts t (k .rising) (w .rising);
       };
@@ -193,12 +194,12 @@ log-spills b c h h′ l t fit rest x g a e r n w s p q y z u v i o m =
     record {
       part = record {
         chain = k2;
-        inside = all-join (Inside 12 (h′ .end)) fs (x ∷ []) (inside-later (h .end) (h′ .end) fs e (k .inside)) (i, tt);
+        inside = all-append (Inside 12 (h′ .end)) fs (x ∷ []) (inside-later (h .end) (h′ .end) fs e (k .inside)) (i, tt);
         apart = pair-between Apart (header-span ∷ fs) x [] (subst (λ w. Pairwise Apart w) (sym (append-nil (header-span ∷ fs))) (k .apart)) o tt;
         few = omega (arith, length-append fs (x ∷ []));
         places = subst (λ w. length rest ≤ entries-in (w .size)) (sym (last-next d fs x)) v;
         row = whole ∙ sym (closed-push ts t) ∙ sym (append-nil (flat (map closed (ts ++ (t ∷ [])))));
-        lists = all-join Counts-lists ts (t ∷ []) (k .lists) (w .lists, tt);
+        lists = all-append Counts-lists ts (t ∷ []) (k .lists) (w .lists, tt);
         pending-lists = tt;
         rising = rising-push ts t (k .rising) (w .rising);
       };

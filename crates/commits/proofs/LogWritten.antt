@@ -11,6 +11,7 @@ use Rattle.std.specs.shelf.Lists.{All}
 use Rattle.std.proofs.shelf.Lists.{append-assoc, append-nil, length-append, length-replicate, length-take, length-drop, take-all, drop-all, take-append-drop}
 use Rattle.std.proofs.shelf.Tests.{cases-bool, cases-lt}
 use Rattle.std.proofs.shelf.Ways.{tells}
+use Rattle.std.proofs.shelf.Elements.{all-append, all-weaker}
 use Rattle.model.specs.declared.types.Span.{Span}
 use Rattle.model.specs.declared.types.Entry.{Entry}
 use Rattle.model.specs.Bytes.{Write, put, written, applied, behind}
@@ -22,13 +23,14 @@ use Rattle.model.specs.Means.{Apart, Pairwise, Inside, entries-of, closed, Logs
 use Rattle.model.specs.Layouts.{Layout}
 use Rattle.model.specs.Saving.{at-end}
 use Rattle.model.specs.Committing.{count-entries, new-entries, if-any, Logged, logged}
+use Rattle.meaning.proofs.Base.{all-front, pairs-split}
 use Rattle.commits.specs.Stored.{Stored}
 use Rattle.commits.specs.Body.{Body, up-to}
 use Rattle.commits.proofs.Sizes.{length-span-bytes, length-entry-bytes, length-new-log-fragment}
 use Rattle.commits.proofs.Store.{length-written, written-below, written-above, same-written, stored-written, stored-same, stored-front, span-stored}
 use Rattle.commits.proofs.FragmentBack.{Small, entries-back, log-fragment-back}
 use Rattle.commits.proofs.HeadBack.{headed}
-use Rattle.commits.proofs.Rows.{all-front, all-join, all-map, all-both, all-between, pair-front, pair-between, last-all}
+use Rattle.commits.proofs.Rows.{all-both, all-between, pair-between, last-all}
 use Rattle.commits.proofs.Bodies.{Kept, all-by-end, past-apart}
 use Rattle.commits.proofs.LogAdded.{Log-agree, Follows, log-fits, log-spills, log-some, split-log, next-inside}
 use Rattle.commits.proofs.Commits.{body-same}
@@ -113,12 +115,12 @@ last-log c s y ls d =
     let k = d .logs .part in
     let some = log-some c (s .header) (s .log) (d .logs) in
     let (p0, p1) = all-front (Apart header-span) gs lf (d .laid .body .apart .0) in
-    let (p2, p3, p4) = pair-front Apart gs lf (d .laid .body .apart .1) in
+    let (p2, p3, p4) = pairs-split Apart gs lf (d .laid .body .apart .1) in
     let at : (P : Span → Type 0) → All P gs → P (last-of z gs) = λ P a. split-log (λ (w : List Span). All P w → P (last-of z w)) gs some (λ f fs i. last-all P z f fs i) a in
     record {
       inside = at (Inside 12 (s .header .end)) (k .inside);
       others = ((λ i x y. at (Apart header-span) p0 i y x), at (λ x. All (Apart x) lf) p4);
-      contents = all-map (λ r. All (Apart r) (header-span ∷ (gs ++ lf))) (Apart (last-of z gs)) (data-spans ls) (λ r a i x y. at (Apart r) (all-front (Apart r) gs lf (a .1) .0) i y x) (d .laid .body .data-apart);
+      contents = all-weaker (λ r. All (Apart r) (header-span ∷ (gs ++ lf))) (Apart (last-of z gs)) (λ r a i x y. at (Apart r) (all-front (Apart r) gs lf (a .1) .0) i y x) (data-spans ls) (d .laid .body .data-apart);
     }
 
 log-done-fits : (c : List ℕ) (s : Section) (y : Layout) (ls : List NodeList) (guid : List ℕ) → Drafted c s y ls → Fine y → Follows (s .log .transactions) (count-entries y) → All Small (new-entries y)
@@ -143,7 +145,7 @@ log-done-fits c s y ls guid d f w sm p =
     let by-end = all-by-end c (up-to (s .header) E) gs ls (d .laid .body) in
     let (e0, e1) = all-front (λ x. end-of x ≤ E) gs lf (by-end .1) in
     let o : Beside c c1 E g at = beside-in c c E g at at new (omega arith) (omega arith) (omega arith) (beside-none c E g at (omega arith) wh) in
-    let (p2, p3, p4) = pair-front Apart gs lf (d .laid .body .apart .1) in
+    let (p2, p3, p4) = pairs-split Apart gs lf (d .laid .body .apart .1) in
     let ag : Log-agree c c1 gs (s .log .used) = beside-log c c1 E (span 0 0) gs (s .log .used) at o p2 e0 (omega arith) (omega arith) in
     let st : Stored c1 at new = stored-written c at new (omega arith) in
     let en : entries-of c1 g (s .log .used) (length (closed t)) ≡ closed t = entries-back c1 g (s .log .used) (closed t) sm st in
@@ -167,15 +169,15 @@ body-log : (c : List ℕ) (h : Header) (e : ℕ) (gs : List Span) (ls : List Nod
 body-log c h e gs ls x d a k l m =
     let lf : List Span = list-fragments ls in
     let q : header-span ∷ ((gs ++ (x ∷ [])) ++ lf) ≡ (header-span ∷ gs) ++ (x ∷ lf) = ap (λ z. header-span ∷ z) (append-assoc gs (x ∷ []) lf) in
-    let far : All (λ f. Apart f x) (header-span ∷ (gs ++ lf)) = all-map (λ f. end-of f ≤ e) (λ f. Apart f x) (header-span ∷ (gs ++ lf)) (λ f u. past-apart e x f l u) a in
+    let far : All (λ f. Apart f x) (header-span ∷ (gs ++ lf)) = all-weaker (λ f. end-of f ≤ e) (λ f. Apart f x) (λ f u. past-apart e x f l u) (header-span ∷ (gs ++ lf)) a in
     let (u, v) = all-front (λ f. Apart f x) (header-span ∷ gs) lf far in
     record {
       whole = d .whole;
       least = d .least;
       lists = d .lists;
       ids-differ = d .ids-differ;
-      log-inside = all-join (λ f. end-of f ≤ h .end) gs (x ∷ []) (d .log-inside) (m, tt);
-      apart = subst (λ z. Pairwise Apart z) (sym q) (pair-between Apart (header-span ∷ gs) x lf (d .apart) u (all-map (λ f. Apart f x) (Apart x) lf (λ f w i y z. w i z y) v));
+      log-inside = all-append (λ f. end-of f ≤ h .end) gs (x ∷ []) (d .log-inside) (m, tt);
+      apart = subst (λ z. Pairwise Apart z) (sym q) (pair-between Apart (header-span ∷ gs) x lf (d .apart) u (all-weaker (λ f. Apart f x) (Apart x) (λ f w i y z. w i z y) lf v));
       data-inside = d .data-inside;
       data-apart = all-both (λ r. end-of r ≤ e) (λ r. All (Apart r) (header-span ∷ (gs ++ lf))) (λ r. All (Apart r) (header-span ∷ ((gs ++ (x ∷ [])) ++ lf))) (data-spans ls)
           (λ r y z. subst (λ w. All (Apart r) w) (sym q) (all-between (Apart r) (header-span ∷ gs) x lf z (past-apart e x r l y))) k (d .data-apart);
@@ -225,7 +227,7 @@ log-done-spills c s y ls guid fit rest d f w q sf sr p r1 r2 few =
     let oa : Beside c ca E g at = beside-past c c E g at E P (omega arith) wh (beside-none c E g at (omega arith) wh) in
     let ob : Beside c cb E g at = beside-in c ca E g at next ref (omega arith) (omega arith) (omega arith) oa in
     let o : Beside c c1 E g at = beside-in c cb E g at at new (omega arith) (omega arith) (omega arith) ob in
-    let (p2, p3, p4) = pair-front Apart gs lf (d .laid .body .apart .1) in
+    let (p2, p3, p4) = pairs-split Apart gs lf (d .laid .body .apart .1) in
     let ag : Log-agree c c1 gs (s .log .used) = beside-log c c1 E (span 0 0) gs (s .log .used) at o p2 e0 (omega arith) (omega arith) in
     let en : entries-of c1 g (s .log .used) (length fit) ≡ fit = entries-back c1 g (s .log .used) fit sf (stored-written cb at new (omega arith)) in
     let sb : Stored cb E nf = stored-same ca cb E nf (same-written ca next ref E (E + length nf) (omega arith) (inr (omega arith))) (omega arith) (stored-front ca E nf pad (stored-written c E P wh)) in
@@ -235,7 +237,7 @@ log-done-spills c s y ls guid fit rest d f w q sf sr p r1 r2 few =
     let z8 : E + 8 * 0 ≡ E = omega arith in
     let en3 : entries-of c1 X 0 (length rest) ≡ rest = entries-back c1 X 0 rest sr (subst (λ z. Stored c1 z (entry-bytes rest)) (sym z8) (log-fragment-back c1 E rest sc)) in
     let kl : All (Kept c c1) lf = all-both (Apart g) (λ x. end-of x ≤ E) (Kept c c1) lf (λ x u v. beside-apart c c1 E g at o x u v) (a .others .1) e1 in
-    let far : All (λ x. Apart x X) (header-span ∷ gs) = all-map (λ x. end-of x ≤ E) (λ x. Apart x X) (header-span ∷ gs) (λ x u. past-apart E X x (omega arith) u) (by-end .0, e0) in
+    let far : All (λ x. Apart x X) (header-span ∷ gs) = all-weaker (λ x. end-of x ≤ E) (λ x. Apart x X) (λ x u. past-apart E X x (omega arith) u) (header-span ∷ gs) (by-end .0, e0) in
     let lg = length-append gs lf in
     let lx : length ((gs ++ (X ∷ [])) ++ lf) ≡ length (gs ++ lf) + 1 = length-append (gs ++ (X ∷ [])) lf ∙ omega (arith, length-append gs (X ∷ [])) in
     let df = d .laid .fragments in

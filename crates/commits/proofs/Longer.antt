@@ -8,6 +8,7 @@ use native.Mathlib.Omega.{arith}
 use lib.ListN.{length}
 use Rattle.std.specs.shelf.Lists.{All}
 use Rattle.std.proofs.shelf.Lists.{append-assoc, append-nil, length-append}
+use Rattle.std.proofs.shelf.Elements.{all-append, all-weaker}
 use Rattle.model.specs.declared.types.Span.{Span}
 use Rattle.model.specs.Bytes.{written}
 use Rattle.model.specs.References.{span, end-of}
@@ -16,13 +17,14 @@ use Rattle.model.specs.Nodes.{Node, referring}
 use Rattle.model.specs.ListFragments.{nodes-to, new-fragment}
 use Rattle.model.specs.Section.{NodeList, list-fragments}
 use Rattle.model.specs.Means.{Apart, Pairwise, within, data-spans}
+use Rattle.meaning.proofs.Members.{flat-append}
 use Rattle.commits.specs.Stored.{Stored}
 use Rattle.commits.specs.Around.{Around}
 use Rattle.commits.specs.Body.{Right, Body, up-to}
 use Rattle.commits.proofs.Sizes.{length-new-fragment}
 use Rattle.commits.proofs.Store.{length-written, stored-written, stored-front}
 use Rattle.commits.proofs.FragmentBack.{fragment-back}
-use Rattle.commits.proofs.Rows.{all-join, all-map, all-both, pair-between, flat-row}
+use Rattle.commits.proofs.Rows.{all-both, pair-between}
 use Rattle.commits.proofs.PartKept.{part-kept, ahead-other}
 use Rattle.commits.proofs.NodeAdded.{Made, around-none, around-past}
 use Rattle.commits.proofs.Bodies.{all-by-end, past-apart, references}
@@ -33,8 +35,7 @@ all-apart [] = tt
 all-apart (f ∷ fs) = ((λ i x y. omega (arith, x .1)), all-apart fs)
 
 rights-kept : (b c : List ℕ) (h h′ : Header) (ms : List NodeList) → Around b c (h .end) (span 0 0) 16 → h .end ≤ h′ .end → All (Right b h) ms → All (Right c h′) ms
-rights-kept b c h h′ ms o k r = all-map (Right b h) (Right c h′) ms
-    (λ m y. record { part = part-kept b c h h′ (span 0 0) 16 (m .id) (m .fragments) (m .nodes) (m .free) o k (ahead-other (span 0 0) 16 (m .fragments) (m .free) (all-apart (m .fragments))) (y .part); ends = y .ends }) r
+rights-kept b c h h′ ms o k r = all-weaker (Right b h) (Right c h′) (λ m y. record { part = part-kept b c h h′ (span 0 0) 16 (m .id) (m .fragments) (m .nodes) (m .free) o k (ahead-other (span 0 0) 16 (m .fragments) (m .free) (all-apart (m .fragments))) (y .part); ends = y .ends }) ms r
 
 -- BODY, with any bytes behind its end
 pub body-longer : (b : List ℕ) (h : Header) (e : ℕ) (gs : List Span) (ls : List NodeList) (new : List ℕ) → Body b h gs ls → h .end + length new ≡ e → Body (written b (h .end) new) (up-to h e) gs ls
@@ -45,9 +46,9 @@ body-longer b h e gs ls new d k =
       least = omega (arith, d .least);
       lists = rights-kept b (written b (h .end) new) h (up-to h e) ls o (omega arith) (d .lists);
       ids-differ = d .ids-differ;
-      log-inside = all-map (λ f. end-of f ≤ h .end) (λ f. end-of f ≤ e) gs (λ f x. omega arith) (d .log-inside);
+      log-inside = all-weaker (λ f. end-of f ≤ h .end) (λ f. end-of f ≤ e) (λ f x. omega arith) gs (d .log-inside);
       apart = d .apart;
-      data-inside = all-map (λ r. end-of r ≤ h .end) (λ r. end-of r ≤ e) (data-spans ls) (λ r x. omega arith) (d .data-inside);
+      data-inside = all-weaker (λ r. end-of r ≤ h .end) (λ r. end-of r ≤ e) (λ r x. omega arith) (data-spans ls) (d .data-inside);
       data-apart = d .data-apart;
     }
 
@@ -86,21 +87,20 @@ body-list b h e gs ls id new pad n m d k r i a w =
     let F : List Span = header-span ∷ (gs ++ list-fragments ls) in
     let by-end : All (λ f. end-of f ≤ E) F = all-by-end b h gs ls d in
     let x : header-span ∷ (gs ++ list-fragments (ls ++ (l ∷ []))) ≡ F ++ (fresh ∷ [])
-        = ap (λ z. header-span ∷ z) (ap (λ z. gs ++ z) (flat-row (λ (m : NodeList). m .fragments) ls (l ∷ [])) ∙ sym (append-assoc gs (list-fragments ls) (fresh ∷ []))) in
+        = ap (λ z. header-span ∷ z) (ap (λ z. gs ++ z) (flat-append (λ (m : NodeList). m .fragments) ls (l ∷ [])) ∙ sym (append-assoc gs (list-fragments ls) (fresh ∷ []))) in
     let y : data-spans (ls ++ (l ∷ [])) ≡ data-spans ls
-        = flat-row references ls (l ∷ []) ∙ ap (λ (z : List Node). data-spans ls ++ (map (λ m. m .reference) z ++ [])) w ∙ append-nil (data-spans ls) in
+        = flat-append references ls (l ∷ []) ∙ ap (λ (z : List Node). data-spans ls ++ (map (λ m. m .reference) z ++ [])) w ∙ append-nil (data-spans ls) in
     let both : All (λ r. (end-of r ≤ E) × All (Apart r) F) (data-spans ls)
         = all-both (λ r. end-of r ≤ E) (λ r. All (Apart r) F) (λ r. (end-of r ≤ E) × All (Apart r) F) (data-spans ls) (λ r x y. (x, y)) (d .data-inside) (d .data-apart) in
     record {
       whole = f .whole;
       least = f .least;
-      lists = all-join (Right c (up-to h e)) ls (l ∷ []) (f .lists) (new-right c (up-to h e) id E new pad n m (omega arith) r i s, tt);
+      lists = all-append (Right c (up-to h e)) ls (l ∷ []) (f .lists) (new-right c (up-to h e) id E new pad n m (omega arith) r i s, tt);
       ids-differ = pair-between (λ l m. l .id ≢ m .id) ls l [] (subst (λ z. Pairwise (λ l m. l .id ≢ m .id) z) (sym (append-nil ls)) (d .ids-differ)) a tt;
       log-inside = f .log-inside;
       apart = subst (λ z. Pairwise Apart z) (sym x) (pair-between Apart F fresh [] (subst (λ z. Pairwise Apart z) (sym (append-nil F)) (d .apart))
-          (all-map (λ f. end-of f ≤ E) (λ x. Apart x fresh) F (λ x y. past-apart E fresh x (omega arith) y) by-end) tt);
+          (all-weaker (λ f. end-of f ≤ E) (λ x. Apart x fresh) (λ x y. past-apart E fresh x (omega arith) y) F by-end) tt);
       data-inside = subst (λ z. All (λ r. end-of r ≤ e) z) (sym y) (f .data-inside);
       data-apart = subst (λ z. All (λ r. All (Apart r) (header-span ∷ (gs ++ list-fragments (ls ++ (l ∷ []))))) z) (sym y)
-          (all-map (λ r. (end-of r ≤ E) × All (Apart r) F) (λ r. All (Apart r) (header-span ∷ (gs ++ list-fragments (ls ++ (l ∷ []))))) (data-spans ls)
-          (λ r z. subst (λ v. All (Apart r) v) (sym x) (all-join (Apart r) F (fresh ∷ []) (z .1) (past-apart E fresh r (omega arith) (z .0), tt))) both);
+          (all-weaker (λ r. (end-of r ≤ E) × All (Apart r) F) (λ r. All (Apart r) (header-span ∷ (gs ++ list-fragments (ls ++ (l ∷ []))))) (λ r z. subst (λ v. All (Apart r) v) (sym x) (all-append (Apart r) F (fresh ∷ []) (z .1) (past-apart E fresh r (omega arith) (z .0), tt))) (data-spans ls) both);
     }

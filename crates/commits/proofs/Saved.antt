@@ -11,6 +11,7 @@ use Rattle.std.specs.shelf.Lists.{All}
 use Rattle.std.proofs.shelf.Lists.{length-append, length-map}
 use Rattle.std.proofs.shelf.Tests.{cases-bool}
 use Rattle.std.proofs.shelf.Ways.{tells}
+use Rattle.std.proofs.shelf.Elements.{all-weaker}
 use Rattle.model.specs.declared.types.Span.{Span}
 use Rattle.model.specs.declared.types.Entry.{Entry}
 use Rattle.model.specs.Bytes.{Write, applied}
@@ -26,7 +27,7 @@ use Rattle.model.specs.Calls.{past-ceiling, commit-checks}
 use Rattle.meaning.proofs.Base.{Clean}
 use Rattle.commits.specs.Body.{Right, up-to}
 use Rattle.commits.proofs.Store.{applied-row}
-use Rattle.commits.proofs.Rows.{all-map, all-both}
+use Rattle.commits.proofs.Rows.{all-both}
 use Rattle.commits.proofs.FragmentBack.{Small}
 use Rattle.commits.proofs.Sums.{closed-small}
 use Rattle.commits.proofs.HeadBack.{headed, head-rest}
@@ -66,10 +67,10 @@ member-self : (ids : List ℕ) → All (λ x. member x ids ≡ true) ids
 member-self [] = tt
 member-self (x ∷ ids) =
     let q : eqb x x ≡ true = grind (arith, tells) in
-    (rw q, all-map (λ y. member y ids ≡ true) (λ y. member y (x ∷ ids) ≡ true) ids (λ y e. elim (cases-bool (eqb x y)) [
+    (rw q, all-weaker (λ y. member y ids ≡ true) (λ y. member y (x ∷ ids) ≡ true) (λ y e. elim (cases-bool (eqb x y)) [
       | inl z ↦ rw z
       | inr z ↦ rw z e
-    ]) (member-self ids))
+    ]) ids (member-self ids))
 
 -- FOLLOWS: the draft's transaction
 pub draft-follows : (c : List ℕ) (s : Section) (y : Layout) (ls : List NodeList) → Drafted c s y ls
@@ -86,8 +87,7 @@ draft-follows c s y ls d =
     let up : All (λ id. count-in ts id < count id) T
         = all-both (λ id. member id (map (λ l. l .id) ls) ≡ true) (λ id. member id T ≡ true) (λ id. count-in ts id < count id) T
           (λ id u v. from-member (λ x. member x T ≡ true → count-in ts x < count x) id ls u rise v) (k .known) (member-self T) in
-    let real : All (λ id. 16 ≤ id) T = all-map (λ id. member id (map (λ l. l .id) ls) ≡ true) (λ id. 16 ≤ id) T
-        (λ id u. from-member (λ x. 16 ≤ x) id ls u (all-map (Right c (up-to (s .header) (y .end))) (λ l. 16 ≤ l .id) ls (λ l r. r .part .real) (d .laid .body .lists))) (k .known) in
+    let real : All (λ id. 16 ≤ id) T = all-weaker (λ id. member id (map (λ l. l .id) ls) ≡ true) (λ id. 16 ≤ id) (λ id u. from-member (λ x. 16 ≤ x) id ls u (all-weaker (Right c (up-to (s .header) (y .end))) (λ l. 16 ≤ l .id) (λ l r. r .part .real) ls (d .laid .body .lists))) T (k .known) in
     (record { lists = counts-lists count T real; rising = rising-entries (flat ts) count T (k .once) up }, counted-after ts T count ls (k .counts) each)
   where
     above : (ts : List (List Entry)) (T : List ℕ) (count : ℕ → ℕ) (l : NodeList) → Counts ts T l → count (l .id) ≡ length (l .nodes) → member (l .id) T ≡ true → count-in ts (l .id) < count (l .id)
@@ -108,8 +108,7 @@ find-count (t ∷ ts) id (p, a) = elim (cases-bool (eqb (t .id) id)) [
 draft-small : (c : List ℕ) (s : Section) (y : Layout) (ls : List NodeList) → Drafted c s y ls → Fine y → All Small (new-entries y)
 draft-small c s y ls d f =
     let top = f .highest in
-    closed-small (count-entries y) (each (y .touched) (all-map (λ id. member id (map (λ l. l .id) ls) ≡ true) (λ id. id < 2 ^ 32) (y .touched)
-      (λ id u. from-member (λ x. x < 2 ^ 32) id ls u (all-map (λ l. l .id ≤ y .highest) (λ l. l .id < 2 ^ 32) ls (λ l k. omega arith) (d .laid .known))) (d .counting .known)))
+    closed-small (count-entries y) (each (y .touched) (all-weaker (λ id. member id (map (λ l. l .id) ls) ≡ true) (λ id. id < 2 ^ 32) (λ id u. from-member (λ x. x < 2 ^ 32) id ls u (all-weaker (λ l. l .id ≤ y .highest) (λ l. l .id < 2 ^ 32) (λ l k. omega arith) ls (d .laid .known))) (y .touched) (d .counting .known)))
   where
     each : (ids : List ℕ) → All (λ id. id < 2 ^ 32) ids → All Small (map (λ id. entry id (find-tail (y .tails) id .count)) ids)
     each [] a = tt

@@ -8,13 +8,16 @@ use native.Mathlib.Omega.{arith}
 use lib.ListN.{length}
 use Rattle.std.specs.shelf.Lists.{All, Has}
 use Rattle.std.proofs.shelf.Lists.{append-nil, length-append, length-map, map-append}
+use Rattle.std.proofs.shelf.Elements.{all-append, all-weaker}
 use Rattle.model.specs.declared.types.Span.{Span}
 use Rattle.model.specs.Headers.{Header}
 use Rattle.model.specs.Section.{NodeList, flat, first-of}
 use Rattle.model.specs.OpenedLists.{Named, named-by, named-first}
 use Rattle.model.specs.Means.{named-in, Reached, by-header, by-node}
+use Rattle.meaning.proofs.Base.{all-front}
+use Rattle.meaning.proofs.Members.{flat-append}
 use Rattle.commits.specs.Body.{Tied}
-use Rattle.commits.proofs.Rows.{all-front, all-join, all-map, flat-row, all-flat, flat-all, flat-instead}
+use Rattle.commits.proofs.Rows.{all-flat, flat-all, flat-instead}
 
 -- elements of a list -------------------------------------------------------------------------------------------------
 
@@ -85,7 +88,7 @@ carries-push pre l l′ post rest e k m h = elim (has-instead pre l l′ post m 
 -- TIED, under a header with the same root and hashed chunk list
 pub tied-header : (h h′ : Header) (ls : List NodeList) → named-first h ≡ named-first h′ → Tied h ls → Tied h′ ls
 tied-header h h′ ls e t = record {
-  reached = all-map (λ l. Reached h ls (first-of l)) (λ l. Reached h′ ls (first-of l)) ls (λ l x. reached-more h h′ ls ls e (carries-same ls) (first-of l) x) (t .reached);
+  reached = all-weaker (λ l. Reached h ls (first-of l)) (λ l. Reached h′ ls (first-of l)) (λ l x. reached-more h h′ ls ls e (carries-same ls) (first-of l) x) ls (t .reached);
   named = subst (λ z. All (λ q. Has (map first-of ls) (q .1)) (z ++ flat (map named-by ls))) e (t .named);
   once = subst (λ z. length (z ++ flat (map named-by ls)) ≡ length ls) e (t .once);
 }
@@ -105,7 +108,7 @@ tied-push h pre l l′ post e f t =
     let u : named-in h ms ≡ named-in h ls = ap (λ z. named-first h ++ z) (flat-instead named-by pre l l′ post f) in
     record {
       reached = all-instead (λ m. Reached h ms (first-of m)) pre l l′ post (λ x. subst (λ w. Reached h ms w) (sym e) x)
-          (all-map (λ m. Reached h ls (first-of m)) (λ m. Reached h ms (first-of m)) ls (λ m x. reached-more h h ls ms refl c (first-of m) x) (t .reached));
+          (all-weaker (λ m. Reached h ls (first-of m)) (λ m. Reached h ms (first-of m)) (λ m x. reached-more h h ls ms refl c (first-of m) x) ls (t .reached));
       named = subst (λ z. All (λ p. Has z (p .1)) (named-in h ms)) (sym q) (subst (λ z. All (λ p. Has (map first-of ls) (p .1)) z) (sym u) (t .named));
       once = ap length u ∙ t .once ∙ sym (length-map ls first-of) ∙ sym (ap length q) ∙ length-map ms first-of;
     }
@@ -122,30 +125,30 @@ tied-branch h pre l l′ post m q e f g z t =
         (subst (λ w. Has w (first-of m)) (sym (map-append (λ (p : Named). p .1) (named-by l) (q ∷ []))) (has-right (names l) (q .1 ∷ []) (first-of m) (subst (λ w. Has (q .1 ∷ []) w) g (has-here (q .1) [])))) in
     let c : Carries ls ms = carries-push pre l l′ post (m ∷ []) e old in
     let rs : All (λ k. Reached h ms (first-of k)) ks = all-instead (λ k. Reached h ms (first-of k)) pre l l′ post (λ x. subst (λ w. Reached h ms w) (sym e) x)
-          (all-map (λ k. Reached h ls (first-of k)) (λ k. Reached h ms (first-of k)) ls (λ k x. reached-more h h ls ms refl c (first-of k) x) (t .reached)) in
+          (all-weaker (λ k. Reached h ls (first-of k)) (λ k. Reached h ms (first-of k)) (λ k x. reached-more h h ls ms refl c (first-of k) x) ls (t .reached)) in
     let rl : Reached h ms (first-of l′) = all-front (λ k. Reached h ms (first-of k)) pre (l′ ∷ post) rs .1 .0 in
     let has : Has ms l′ = has-left ks (m ∷ []) l′ (has-right pre (l′ ∷ post) l′ (has-here l′ post)) in
     let fs : map first-of ms ≡ map first-of ls ++ (first-of m ∷ []) = map-append first-of ks (m ∷ []) ∙ ap (λ w. w ++ (first-of m ∷ [])) (map-instead first-of pre l l′ post e) in
     let Q : Named → Type 0 = λ p. Has (map first-of ms) (p .1) in
     let up : (p : Named) → Has (map first-of ls) (p .1) → Q p = λ p x. subst (λ w. Has w (p .1)) (sym fs) (has-left (map first-of ls) (first-of m ∷ []) (p .1) x) in
     let (n0, n1) = all-front (λ p. Has (map first-of ls) (p .1)) (named-first h) (flat (map named-by ls)) (t .named) in
-    let n2 : All (λ k. All Q (named-by k)) ls = all-flat Q named-by ls (all-map (λ p. Has (map first-of ls) (p .1)) Q (flat (map named-by ls)) up n1) in
+    let n2 : All (λ k. All Q (named-by k)) ls = all-flat Q named-by ls (all-weaker (λ p. Has (map first-of ls) (p .1)) Q up (flat (map named-by ls)) n1) in
     let last : Q q = subst (λ w. Has w (q .1)) (sym fs) (has-right (map first-of ls) (first-of m ∷ []) (q .1) (subst (λ w. Has (w ∷ []) (q .1)) g (has-here (q .1) []))) in
-    let n3 : All (λ k. All Q (named-by k)) ks = all-instead (λ k. All Q (named-by k)) pre l l′ post (λ x. subst (λ w. All Q w) (sym f) (all-join Q (named-by l) (q ∷ []) x (last, tt))) n2 in
-    let n4 : All (λ k. All Q (named-by k)) ms = all-join (λ k. All Q (named-by k)) ks (m ∷ []) n3 (subst (λ w. All Q w) (sym z) tt, tt) in
+    let n3 : All (λ k. All Q (named-by k)) ks = all-instead (λ k. All Q (named-by k)) pre l l′ post (λ x. subst (λ w. All Q w) (sym f) (all-append Q (named-by l) (q ∷ []) x (last, tt))) n2 in
+    let n4 : All (λ k. All Q (named-by k)) ms = all-append (λ k. All Q (named-by k)) ks (m ∷ []) n3 (subst (λ w. All Q w) (sym z) tt, tt) in
     let A = flat (map named-by pre) in
     let B = flat (map named-by post) in
     let c1 : length (named-in h ls) ≡ length (named-first h) + (length A + (length (named-by l) + length B))
-        = length-append (named-first h) (flat (map named-by ls)) ∙ ap (λ w. length (named-first h) + w) (ap length (flat-row named-by pre (l ∷ post)) ∙ length-append A (named-by l ++ B) ∙ ap (λ w. length A + w) (length-append (named-by l) B)) in
+        = length-append (named-first h) (flat (map named-by ls)) ∙ ap (λ w. length (named-first h) + w) (ap length (flat-append named-by pre (l ∷ post)) ∙ length-append A (named-by l ++ B) ∙ ap (λ w. length A + w) (length-append (named-by l) B)) in
     let c2 : length (flat (map named-by ks)) ≡ length A + (length (named-by l′) + length B)
-        = ap length (flat-row named-by pre (l′ ∷ post)) ∙ length-append A (named-by l′ ++ B) ∙ ap (λ w. length A + w) (length-append (named-by l′) B) in
-    let c3 : length (flat (map named-by ms)) ≡ length (flat (map named-by ks)) = ap length (flat-row named-by ks (m ∷ []) ∙ ap (λ (w : List Named). flat (map named-by ks) ++ (w ++ [])) z ∙ append-nil (flat (map named-by ks))) in
+        = ap length (flat-append named-by pre (l′ ∷ post)) ∙ length-append A (named-by l′ ++ B) ∙ ap (λ w. length A + w) (length-append (named-by l′) B) in
+    let c3 : length (flat (map named-by ms)) ≡ length (flat (map named-by ks)) = ap length (flat-append named-by ks (m ∷ []) ∙ ap (λ (w : List Named). flat (map named-by ks) ++ (w ++ [])) z ∙ append-nil (flat (map named-by ks))) in
     let c4 : length (named-by l′) ≡ length (named-by l) + 1 = ap length f ∙ length-append (named-by l) (q ∷ []) in
     let c5 : length (named-in h ms) ≡ length (named-first h) + length (flat (map named-by ms)) = length-append (named-first h) (flat (map named-by ms)) in
     let c6 : length ms ≡ length ks + 1 = length-append ks (m ∷ []) in
     let c7 : length ks ≡ length ls = sym (length-map ks first-of) ∙ ap length (map-instead first-of pre l l′ post e) ∙ length-map ls first-of in
     record {
-      reached = all-join (λ k. Reached h ms (first-of k)) ks (m ∷ []) rs (by-node has rl new, tt);
-      named = all-join Q (named-first h) (flat (map named-by ms)) (all-map (λ p. Has (map first-of ls) (p .1)) Q (named-first h) up n0) (flat-all Q named-by ms n4);
+      reached = all-append (λ k. Reached h ms (first-of k)) ks (m ∷ []) rs (by-node has rl new, tt);
+      named = all-append Q (named-first h) (flat (map named-by ms)) (all-weaker (λ p. Has (map first-of ls) (p .1)) Q up (named-first h) n0) (flat-all Q named-by ms n4);
       once = omega (arith, t .once);
     }

@@ -12,6 +12,7 @@ use Rattle.std.specs.shelf.Lists.{All, Has}
 use Rattle.std.proofs.shelf.Lists.{append-nil}
 use Rattle.std.proofs.shelf.Ways.{tells}
 use Rattle.std.proofs.shelf.Tests.{and-from}
+use Rattle.std.proofs.shelf.Elements.{all-append}
 use Rattle.model.specs.declared.types.Span.{Span}
 use Rattle.model.specs.Bytes.{le, piece, same-row}
 use Rattle.model.specs.Faults.{Outcome, done, Check, unless, then}
@@ -24,7 +25,7 @@ use Rattle.model.specs.OpenedLists.{named-first, lists-from}
 use Rattle.model.specs.Opened.{header-checks, data-checks, opened}
 use Rattle.model.specs.Means.{Apart, Headed, data-spans, Means, In-order}
 use Rattle.model.specs.Laws.{Meant-opens}
-use Rattle.meaning.proofs.Base.{Clean, unless-clean, all-front, all-join, apart-overlaps}
+use Rattle.meaning.proofs.Base.{Clean, unless-clean, all-front, apart-overlaps}
 use Rattle.meaning.proofs.Members.{In, has-from-in, in-map, in-flat, in-unflat, all-in, all-from-in}
 use Rattle.meaning.proofs.ReadLog.{reading, logs-read}
 use Rattle.meaning.proofs.ReadQueue.{Stock, Right, lists-read, lists-read-in-order}
@@ -69,14 +70,14 @@ data-passes end fs id (n ∷ ns) ((x, y, z), a) =
 
 all-flat : {X Y : Type 0} (P : Y → Type 0) (f : X → List Y) (xs : List X) → ((x : X) → In x xs → All P (f x)) → All P (flat (map f xs))
 all-flat P f [] k = tt
-all-flat P f (x ∷ xs) k = all-join P (f x) (flat (map f xs)) (k x (inl refl)) (all-flat P f xs (λ y i. k y (inr i)))
+all-flat P f (x ∷ xs) k = all-append P (f x) (flat (map f xs)) (k x (inl refl)) (all-flat P f xs (λ y i. k y (inr i)))
 
 -- the fragments of the same lists in another order
 same-fragments : (log : Log) (S T : List NodeList) (P : Span → Type 0) → ((l : NodeList) → In l T → In l S)
     → All P (log .fragments ++ list-fragments S) → All P (log .fragments ++ list-fragments T)
 same-fragments log S T P k a =
     let (u, v) = all-front P (log .fragments) (list-fragments S) a in
-    all-join P (log .fragments) (list-fragments T) u (all-from-in P (list-fragments T) (λ f i.
+    all-append P (log .fragments) (list-fragments T) u (all-from-in P (list-fragments T) (λ f i.
       let (l, j, w) = in-unflat (λ (l : NodeList). l .fragments) T f i in
       all-in P (list-fragments S) f v (in-flat (λ (l : NodeList). l .fragments) S l f (k l j) w)))
 

@@ -9,6 +9,7 @@ use lib.ListN.{length}
 use Rattle.std.specs.shelf.Lists.{All, Has}
 use Rattle.std.proofs.shelf.Lists.{append-nil, length-map}
 use Rattle.std.proofs.shelf.Ways.{tells}
+use Rattle.std.proofs.shelf.Elements.{all-append}
 use Rattle.model.specs.declared.types.Span.{Span}
 use Rattle.model.specs.Bytes.{piece, same-row}
 use Rattle.model.specs.Faults.{done, Check}
@@ -21,7 +22,7 @@ use Rattle.model.specs.OpenedLists.{Named, named-first, lists-from}
 use Rattle.model.specs.Opened.{header-checks, data-checks, opened}
 use Rattle.model.specs.Means.{Apart, Pairwise, Headed, Logs, named-in, Reached, by-header, data-spans, Means, In-order}
 use Rattle.model.specs.Laws.{Opened-means, Same-lists}
-use Rattle.meaning.proofs.Base.{Clean, unless-done, then-done, all-front, all-join, overlaps-apart}
+use Rattle.meaning.proofs.Base.{Clean, unless-done, then-done, all-front, overlaps-apart}
 use Rattle.meaning.proofs.Members.{has-from-in, in-from-has, in-map, all-in, all-from-in}
 use Rattle.meaning.proofs.ReadLog.{reading}
 use Rattle.meaning.proofs.ReadQueue.{spans}
@@ -78,8 +79,8 @@ all-data-right end fs (l ∷ ls) c =
         (flat (map (λ (l : NodeList). data-checks end fs (l .id) (referring 1 (l .nodes))) ls)) c in
     let (u, v) = data-right end fs (l .id) (referring 1 (l .nodes)) x in
     let (z, w) = all-data-right end fs ls y in
-    (all-join (λ (r : Span). end-of r ≤ end) (references (referring 1 (l .nodes))) (data-spans ls) u z,
-      all-join (λ (r : Span). All (Apart r) (header-span ∷ fs)) (references (referring 1 (l .nodes))) (data-spans ls) v w)
+    (all-append (λ (r : Span). end-of r ≤ end) (references (referring 1 (l .nodes))) (data-spans ls) u z,
+      all-append (λ (r : Span). All (Apart r) (header-span ∷ fs)) (references (referring 1 (l .nodes))) (data-spans ls) v w)
 
 -- opening ----------------------------------------------------------------------------------------------------------
 

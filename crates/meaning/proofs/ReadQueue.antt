@@ -12,6 +12,7 @@ use Rattle.std.specs.shelf.Lists.{All, Has}
 use Rattle.std.proofs.shelf.Lists.{append-assoc, append-nil, length-append, length-map, map-append, append-cancel-left}
 use Rattle.std.proofs.shelf.Ways.{tells}
 use Rattle.std.proofs.shelf.Tests.{or-from}
+use Rattle.std.proofs.shelf.Elements.{all-weaker}
 use Rattle.model.specs.declared.types.Span.{Span}
 use Rattle.model.specs.Faults.{Outcome, done, then}
 use Rattle.model.specs.References.{span}
@@ -20,7 +21,7 @@ use Rattle.model.specs.ListFragments.{owner}
 use Rattle.model.specs.Section.{Log, NodeList, flat, count-in, list-fragments, first-of}
 use Rattle.model.specs.OpenedLists.{taken, list-from, Named, named-by, named-first, lists-from}
 use Rattle.model.specs.Means.{Apart, Pairwise, Spread, Numbered, Stands, named-in, Reached, by-header, by-node, In-order}
-use Rattle.meaning.proofs.Base.{pairs-split, pairs-move-in, apart-back, Cross, all-map}
+use Rattle.meaning.proofs.Base.{pairs-split, pairs-move-in, apart-back, Cross}
 use Rattle.meaning.proofs.Members.{In, in-from-has, in-left, in-right, in-cases, in-map, in-unmap, in-flat, in-unflat, all-in, all-from-in, pick, in-without, in-with, in-at, pigeon, same-by-key, flat-append}
 use Rattle.meaning.proofs.ReadList.{stands-read}
 
@@ -127,7 +128,7 @@ not-taken id (k ∷ ls) (p, a) =
     or-from (eqb (k .id) id) (taken id ls) e (not-taken id ls a)
 
 cross-one : {X : Type 0} (R : X → X → Type 0) (xs ys : List X) (y : X) → Cross R xs (y ∷ ys) → All (λ x. R x y) xs
-cross-one R xs ys y c = all-map (λ x. All (R x) (y ∷ ys)) (λ x. R x y) xs (λ x a. a .0) c
+cross-one R xs ys y c = all-weaker (λ x. All (R x) (y ∷ ys)) (λ x. R x y) (λ x a. a .0) xs c
 
 abbrev pub named-list : List ℕ → Header → Log → List NodeList → Named → ℕ → Outcome NodeList
 named-list b h log ls q id =

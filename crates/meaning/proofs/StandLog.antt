@@ -11,6 +11,7 @@ use Rattle.std.specs.shelf.Lists.{All}
 use Rattle.std.proofs.shelf.Lists.{append-assoc, append-nil}
 use Rattle.std.proofs.shelf.Ways.{tells}
 use Rattle.std.proofs.shelf.Tests.{cases-bool}
+use Rattle.std.proofs.shelf.Elements.{all-append}
 use Rattle.model.specs.declared.types.Span.{Span}
 use Rattle.model.specs.declared.types.Entry.{Entry}
 use Rattle.model.specs.Faults.{fault, done}
@@ -20,7 +21,7 @@ use Rattle.model.specs.LogFragments.{entry-at, sentinel, entries-in, entry-plac
 use Rattle.model.specs.Section.{Log, flat, last-of, latest}
 use Rattle.model.specs.OpenedLog.{outside, overlaps, Reading, LogPart, finished, unfinished, log-entries, log-from}
 use Rattle.model.specs.Means.{Apart, Pairwise, Inside, Chain, entries-of, log-row, closed, Counts-lists, Rising, Logs}
-use Rattle.meaning.proofs.Base.{unless-done, then-done, all-join, inside, overlaps-apart, pairs-push}
+use Rattle.meaning.proofs.Base.{unless-done, then-done, inside, overlaps-apart, pairs-push}
 use Rattle.meaning.proofs.ReadLog.{reading, log-goes, log-step, log-next-of, log-is, flat-push}
 
 -- entries ----------------------------------------------------------------------------------------------------------
@@ -58,13 +59,13 @@ fair-count : (ts : List (List Entry)) (pending : List Entry) (e : Entry) → Fai
     → Fair ts (pending ++ (e ∷ []))
 fair-count ts pending e f s l = record {
   lists = f .lists;
-  pending-lists = all-join (λ (e : Entry). e .source ≢ 1) pending (e ∷ []) (f .pending-lists) (s, tt);
+  pending-lists = all-append (λ (e : Entry). e .source ≢ 1) pending (e ∷ []) (f .pending-lists) (s, tt);
   rising = subst (λ w. Rising [] w) (append-assoc (flat ts) pending (e ∷ [])) (rising-push [] (flat ts ++ pending) e (f .rising) l);
 }
 
 fair-sentinel : (ts : List (List Entry)) (pending : List Entry) → Fair ts pending → Fair (ts ++ (pending ∷ [])) []
 fair-sentinel ts pending f = record {
-  lists = all-join Counts-lists ts (pending ∷ []) (f .lists) (f .pending-lists, tt);
+  lists = all-append Counts-lists ts (pending ∷ []) (f .lists) (f .pending-lists, tt);
   pending-lists = tt;
   rising = subst (λ w. Rising [] w) (sym (flat-push ts pending) ∙ sym (append-nil (flat (ts ++ (pending ∷ []))))) (f .rising);
 }

@@ -12,13 +12,14 @@ use Rattle.std.specs.shelf.Lists.{All, Has}
 use Rattle.std.proofs.shelf.Lists.{append-assoc, append-nil, length-append}
 use Rattle.std.proofs.shelf.Ways.{tells}
 use Rattle.std.proofs.shelf.Tests.{or-parts}
+use Rattle.std.proofs.shelf.Elements.{all-append, all-weaker}
 use Rattle.model.specs.Faults.{done}
 use Rattle.model.specs.Headers.{header-span, Header}
 use Rattle.model.specs.ListFragments.{owner}
 use Rattle.model.specs.Section.{Log, NodeList, count-in, list-fragments, first-of}
 use Rattle.model.specs.OpenedLists.{taken, Named, named-by, lists-from}
 use Rattle.model.specs.Means.{Apart, Pairwise, Stands, Reached, by-node}
-use Rattle.meaning.proofs.Base.{then-done, pairs-join, all-join, all-map}
+use Rattle.meaning.proofs.Base.{then-done, pairs-join}
 use Rattle.meaning.proofs.Members.{has-from-in, in-map, in-at, all-from-in, flat-append}
 use Rattle.meaning.proofs.ReadQueue.{spans, Order, order-more, named-list, lists-step, lists-end}
 use Rattle.meaning.proofs.StandList.{list-fits, list-new}
@@ -32,7 +33,7 @@ taken-not id (k ∷ ls) e =
 
 ids-push : (ls : List NodeList) (l : NodeList) → Pairwise (λ l m. l .id ≢ m .id) ls → taken (l .id) ls ≡ false → Pairwise (λ l m. l .id ≢ m .id) (ls ++ (l ∷ []))
 ids-push ls l p t = pairs-join (λ (l m : NodeList). l .id ≢ m .id) ls (l ∷ []) p (tt, tt)
-    (all-map (λ (k : NodeList). k .id ≢ l .id) (λ (k : NodeList). All (λ (m : NodeList). k .id ≢ m .id) (l ∷ [])) ls (λ k d. (d, tt)) (taken-not (l .id) ls t))
+    (all-weaker (λ (k : NodeList). k .id ≢ l .id) (λ (k : NodeList). All (λ (m : NodeList). k .id ≢ m .id) (l ∷ [])) (λ k d. (d, tt)) ls (taken-not (l .id) ls t))
 
 fragments-push : (log : Log) (ls : List NodeList) (l : NodeList)
     → log .fragments ++ list-fragments (ls ++ (l ∷ [])) ≡ (log .fragments ++ list-fragments ls) ++ l .fragments
@@ -65,7 +66,7 @@ so-far-more b h log ls q qs l s e =
       ids = ids-push ls l (s .ids) (subst (λ i. taken i ls ≡ false) (sym id) new);
       order = order-more h ls q qs l (s .order) (fit .first);
       few = omega arith;
-      stands = all-join (Stands b h log) ls (l ∷ []) (s .stands) (fit .stands, tt);
+      stands = all-append (Stands b h log) ls (l ∷ []) (s .stands) (fit .stands, tt);
     }, fit .first)
 
 -- what reading lists says of them
@@ -98,7 +99,7 @@ lists-longer n b h log q qs ls g l e s =
       few-lists = omega arith;
       reached = λ r.
         let here : Reached h g (first-of l) = subst (λ z. Reached h g z) (sym e) (r .0) in
-        (here, s .reached (all-join (λ (q : Named). Reached h g (q .1)) qs (named-by l) (r .1)
+        (here, s .reached (all-append (λ (q : Named). Reached h g (q .1)) qs (named-by l) (r .1)
           (all-from-in (λ (q : Named). Reached h g (q .1)) (named-by l) (λ p i.
             by-node {l = l} has here (has-from-in (spans (named-by l)) (p .1) (in-map (λ (q : Named). q .1) (named-by l) p i))))));
     }
