@@ -20,11 +20,11 @@ use Rattle.model.specs.Nodes.{Node, referring}
 use Rattle.model.specs.ListFragments.{nodes-to, new-fragment}
 use Rattle.model.specs.Section.{NodeList, Section, last-of, list-fragments}
 use Rattle.model.specs.Means.{Apart, Pairwise, Inside, Spread, within, across, Stands, data-spans, Means}
-use Rattle.meaning.proofs.Base.{all-front, pairs-split}
+use Rattle.meaning.proofs.Base.{all-front, pairs-split, apart-back}
 use Rattle.meaning.proofs.Members.{flat-append}
 use Rattle.commits.specs.Around.{Around}
 use Rattle.commits.specs.Body.{Right, Body, Tied, with-one, with-fragment, last-fragment, up-to}
-use Rattle.commits.proofs.Rows.{all-between, all-both, pair-between, pair-instead, all-flat, flat-all, flat-instead}
+use Rattle.commits.proofs.Rows.{all-between, all-both, pair-between, pair-instead, all-flat, flat-all, flat-instead, last-push}
 use Rattle.commits.proofs.PartKept.{other-same, part-kept, ahead-other}
 use Rattle.commits.proofs.NodeAdded.{Made, fits-list, spill-list, ended}
 
@@ -40,9 +40,6 @@ body-means b s m = (record {
   data-inside = m .data-inside;
   data-apart = m .data-apart;
 }, record { reached = m .reached; named = m .named; once = m .once })
-
-apart-sym : (f g : Span) → Apart f g → Apart g f
-apart-sym f g a i x y = a i y x
 
 -- one list among the others ---------------------------------------------------------------------------------------------
 
@@ -65,12 +62,12 @@ own b h gs pre l post r (p0, p) =
     let p2 : Pairwise Apart (A ++ (fs ++ B)) = subst (λ z. Pairwise Apart z) (flat-append (λ (m : NodeList). m .fragments) pre (l ∷ post)) p1 in
     let (x2, p3, a1) = pairs-split Apart A (fs ++ B) p2 in
     let (p4, x3, a2) = pairs-split Apart fs B p3 in
-    let k1 : All (Apart g) A = all-weaker (λ x. All (Apart x) (fs ++ B)) (Apart g) (λ x u. apart-sym x g (spread-last b (Apart x) (span 0 0) (r .part .spread) (all-front (Apart x) fs B u .0))) A a1 in
+    let k1 : All (Apart g) A = all-weaker (λ x. All (Apart x) (fs ++ B)) (Apart g) (λ x u. apart-back x g (spread-last b (Apart x) (span 0 0) (r .part .spread) (all-front (Apart x) fs B u .0))) A a1 in
     let k2 : All (Apart g) B = spread-last b (λ x. All (Apart x) B) (span 0 0) (r .part .spread) a2 in
     let L : List Span = list-fragments (pre ++ (l ∷ post)) in
     let from : (x : Span) → All (Apart x) L → Apart g x = λ x u.
         let v : All (Apart x) (A ++ (fs ++ B)) = subst (λ z. All (Apart x) z) (flat-append (λ (m : NodeList). m .fragments) pre (l ∷ post)) u in
-        apart-sym x g (spread-last b (Apart x) (span 0 0) (r .part .spread) (all-front (Apart x) fs B (all-front (Apart x) A (fs ++ B) v .1) .0)) in
+        apart-back x g (spread-last b (Apart x) (span 0 0) (r .part .spread) (all-front (Apart x) fs B (all-front (Apart x) A (fs ++ B) v .1) .0)) in
     (p4, all-flat (Apart g) (λ (m : NodeList). m .fragments) pre k1, all-flat (Apart g) (λ (m : NodeList). m .fragments) post k2,
     (from header-span (all-front (Apart header-span) gs L p0 .1), all-weaker (λ x. All (Apart x) L) (Apart g) from gs x1), from)
 
@@ -187,11 +184,7 @@ row-pairs gs pre l l′ post f e a p =
     let B : List Span = list-fragments post in
     let (u, v) = all-front (λ x. Apart x f) X B (subst (λ z. All (λ x. Apart x f) z) (row-old gs pre l post) a) in
     subst (λ z. Pairwise Apart z) (sym (row-new gs pre l l′ post f e))
-      (pair-between Apart X f B (subst (λ z. Pairwise Apart z) (row-old gs pre l post) p) u (all-weaker (λ x. Apart x f) (Apart f) (λ x y. apart-sym x f y) B v))
-
-pub last-push : {A : Type 0} (d : A) (xs : List A) (x : A) → last-of d (xs ++ (x ∷ [])) ≡ x
-last-push d [] x = refl
-last-push d (y ∷ xs) x = last-push y xs x
+      (pair-between Apart X f B (subst (λ z. Pairwise Apart z) (row-old gs pre l post) p) u (all-weaker (λ x. Apart x f) (Apart f) (λ x y. apart-back x f y) B v))
 
 -- BODY, a node that goes into a new fragment at the end
 pub body-spill : (b : List ℕ) (h : Header) (e : ℕ) (gs : List Span) (pre : List NodeList) (l : NodeList) (post : List NodeList) (new pad : List ℕ) (n : ℕ → Node)

@@ -1,9 +1,9 @@
 -- Numbers that are read from bytes fit into their widths: so do the list IDs and the counts of an accepted file.
-use Prim.Native.Nat.{ℕ, zero, suc, _+_, _*_, _^_, _<_, _≤_, max}
-use mathlib.Core.Path.{_≡_, refl, sym, ap, _∙_, subst}
+use Prim.Native.Nat.{ℕ, zero, suc, _+_, _^_, _<_}
+use mathlib.Core.Path.{sym, _∙_, subst}
 use mathlib.Core.Logic.{inl, inr}
 use mathlib.Core.Bool.{cond}
-use mathlib.Core.List.{List, [], _∷_, _++_, map}
+use mathlib.Core.List.{List, [], _∷_, map}
 use native.Mathlib.Nat.{pow-suc}
 use native.Mathlib.Omega.{arith}
 use lib.Dec.{eqb}
@@ -15,12 +15,12 @@ use Rattle.std.proofs.shelf.Elements.{all-append, all-weaker}
 use Rattle.model.specs.declared.types.Span.{Span}
 use Rattle.model.specs.declared.types.Entry.{Entry}
 use Rattle.model.specs.Bytes.{le, Bytes}
-use Rattle.model.specs.LogFragments.{entry-at, sentinel, entries-in, entry-place}
+use Rattle.model.specs.LogFragments.{sentinel, entries-in, entry-place}
 use Rattle.model.specs.Headers.{Header}
-use Rattle.model.specs.Section.{Log, NodeList, Section, flat, latest, count-in}
+use Rattle.model.specs.Section.{Log, NodeList, Section, flat, latest}
 use Rattle.model.specs.Nodes.{Node}
 use Rattle.model.specs.Means.{entries-of, log-row, closed, Logs, Numbered, Spread, within, across, Stands, Means}
-use Rattle.model.specs.Layouts.{Tail, tail-of, greatest, blank}
+use Rattle.model.specs.Layouts.{tail-of, greatest, blank}
 use Rattle.meaning.proofs.Base.{all-front}
 use Rattle.commits.proofs.FragmentBack.{Small}
 

@@ -1,18 +1,16 @@
 -- After a commit the bytes open to a section with the count one higher, in which each list holds what it held and then the draft's nodes.
-use Prim.Native.Nat.{ℕ, _+_, _<_, _≤_}
-use mathlib.Core.Path.{_≡_, refl, sym, ap, _∙_, subst}
+use Prim.Native.Nat.{ℕ, _≤_}
+use mathlib.Core.Path.{_≡_, refl, sym, ap, _∙_}
 use mathlib.Core.Logic.{_≢_, inl, inr}
-use mathlib.Core.Bool.{true, false, _||_}
+use mathlib.Core.Bool.{true, false}
 use mathlib.Core.List.{List, [], _∷_, _++_, map}
 use native.Mathlib.Omega.{arith}
 use lib.Dec.{eqb}
 use lib.ListN.{length}
-use Rattle.std.specs.shelf.Lists.{All}
 use Rattle.std.proofs.shelf.Tests.{cases-bool}
 use Rattle.std.proofs.shelf.Ways.{tells}
 use Rattle.model.specs.Bytes.{applied, Bytes}
 use Rattle.model.specs.Faults.{Outcome, done}
-use Rattle.model.specs.Headers.{Header}
 use Rattle.model.specs.Nodes.{Node}
 use Rattle.model.specs.Section.{Log, NodeList, Section}
 use Rattle.model.specs.OpenedLists.{taken}
@@ -23,11 +21,10 @@ use Rattle.model.specs.Layouts.{Add, blank}
 use Rattle.model.specs.Saving.{layout}
 use Rattle.model.specs.Committing.{count-entries, logged, committing}
 use Rattle.model.specs.Calls.{commit-checks}
-use Rattle.model.specs.Contents.{Content, holds, held-in, held, saved}
-use Rattle.model.specs.Laws.{Done-adds, add-writes, Commits-to, Commit-reads}
+use Rattle.model.specs.Contents.{holds, held-in, held, saved}
+use Rattle.model.specs.Laws.{Done-adds, add-writes, Commit-reads}
 use Rattle.meaning.proofs.Base.{Clean}
 use Rattle.meaning.proofs.Members.{In, all-in}
-use Rattle.meaning.proofs.ReadQueue.{Stock}
 use Rattle.meaning.proofs.MeantOpens.{means-opens}
 use Rattle.meaning.proofs.OpensMeans.{opens-means}
 use Rattle.commits.proofs.HeadBack.{headed}

@@ -1,7 +1,7 @@
 -- A commit: from the draft's lists and the log's new entries to the whole.
 -- Assumes nothing.
-use Prim.Native.Nat.{ℕ, _+_, _*_, _^_, _<_, _≤_}
-use mathlib.Core.Path.{_≡_, refl, sym, _∙_, subst}
+use Prim.Native.Nat.{ℕ, _+_, _^_, _<_, _≤_}
+use mathlib.Core.Path.{_≡_, sym, _∙_}
 use mathlib.Core.Logic.{inl, inr}
 use mathlib.Core.List.{List, [], _∷_, _++_}
 use native.Mathlib.Omega.{arith}
@@ -11,28 +11,22 @@ use Rattle.std.proofs.shelf.Lists.{ext-getD, length-take, getD-take}
 use Rattle.std.proofs.shelf.Tests.{cases-lt}
 use Rattle.std.proofs.shelf.Elements.{all-weaker}
 use Rattle.model.specs.declared.types.Span.{Span}
-use Rattle.model.specs.declared.types.Entry.{Entry}
-use Rattle.model.specs.Bytes.{Write, put, written, applied, Same}
+use Rattle.model.specs.Bytes.{applied, Same}
 use Rattle.model.specs.References.{span, end-of}
 use Rattle.model.specs.Headers.{header-span, Header, header-at}
-use Rattle.model.specs.LogFragments.{entry-bytes, entries-in, entry-place}
+use Rattle.model.specs.LogFragments.{entries-in}
 use Rattle.model.specs.Section.{Log, NodeList, Section, last-of, count-in, list-fragments}
-use Rattle.model.specs.Means.{Apart, Pairwise, Inside, Headed, entries-of, closed, Logs, Numbered, Stands, data-spans, Means}
+use Rattle.model.specs.Means.{Apart, Inside, Headed, Logs, Numbered, Stands, data-spans, Means}
 use Rattle.model.specs.Committing.{header-write}
 use Rattle.meaning.proofs.Frames.{le-in, piece-in}
 use Rattle.meaning.proofs.Local.{Agree, spread-local, span-local}
-use Rattle.meaning.proofs.Base.{all-front, pairs-split}
-use Rattle.commits.specs.Stored.{Stored}
-use Rattle.commits.specs.Body.{Right, Body, Tied, up-to}
-use Rattle.commits.proofs.Sizes.{length-entry-bytes}
-use Rattle.commits.proofs.Store.{length-written, written-below, written-above, stored-written, same-written}
-use Rattle.commits.proofs.FragmentBack.{Small, entries-back}
+use Rattle.meaning.proofs.Base.{all-front}
+use Rattle.commits.specs.Body.{Right, Body, Tied}
 use Rattle.commits.proofs.HeadBack.{headed, header-back, head-rest}
-use Rattle.commits.proofs.Rows.{all-both, all-flat, flat-all, last-all}
+use Rattle.commits.proofs.Rows.{all-both, all-flat}
 use Rattle.commits.proofs.PartKept.{marked-same, spread-ends, inside-more}
 use Rattle.commits.proofs.Bodies.{Kept}
-use Rattle.commits.proofs.LogAdded.{Log-agree, Follows, log-fits, row-local, chain-local, log-some, split-log, next-inside}
-use Rattle.commits.proofs.Ties.{tied-header}
+use Rattle.commits.proofs.LogAdded.{Log-agree, row-local, chain-local, next-inside}
 
 -- lists in another row that has their fragments ------------------------------------------------------------------------------
 

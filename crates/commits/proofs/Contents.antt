@@ -1,6 +1,6 @@
 -- What lists hold: it is the same in a row that has their data, and one node or one list more adds to it at one ID.
-use Prim.Native.Nat.{ℕ, _+_, _<_, _≤_}
-use mathlib.Core.Path.{_≡_, refl, sym, ap, _∙_, subst}
+use Prim.Native.Nat.{ℕ, _<_, _≤_}
+use mathlib.Core.Path.{_≡_, refl, sym, ap, subst}
 use mathlib.Core.Logic.{_≢_, inl, inr}
 use mathlib.Core.Bool.{true, false, cond, _&&_, _||_}
 use mathlib.Core.List.{List, [], _∷_, _++_, map}
@@ -9,7 +9,7 @@ use lib.Dec.{eqb}
 use lib.ListN.{length}
 use Rattle.std.specs.shelf.Lists.{All}
 use Rattle.std.specs.declared.option.Option.the-variants.{Some, None}
-use Rattle.std.proofs.shelf.Lists.{append-assoc, append-nil, map-append}
+use Rattle.std.proofs.shelf.Lists.{append-nil}
 use Rattle.std.proofs.shelf.Tests.{cases-bool}
 use Rattle.std.proofs.shelf.Ways.{tells}
 use Rattle.model.specs.declared.types.Span.{Span}
@@ -20,8 +20,7 @@ use Rattle.model.specs.Section.{NodeList}
 use Rattle.model.specs.OpenedLists.{taken}
 use Rattle.model.specs.Means.{Pairwise, data-spans}
 use Rattle.model.specs.Looks.{nodes-of, reference-of, data-of}
-use Rattle.model.specs.Layouts.{Layout}
-use Rattle.model.specs.Contents.{Content, content-of, holds}
+use Rattle.model.specs.Contents.{content-of, holds}
 use Rattle.meaning.proofs.Frames.{piece-in}
 use Rattle.meaning.proofs.Base.{all-front}
 use Rattle.commits.proofs.NodeBack.{plain-of, referring-of}

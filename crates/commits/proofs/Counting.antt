@@ -9,7 +9,7 @@ use native.Mathlib.Omega.{arith}
 use lib.Dec.{eqb}
 use lib.ListN.{length}
 use Rattle.std.specs.shelf.Lists.{All}
-use Rattle.std.proofs.shelf.Lists.{append-assoc, append-nil, map-append}
+use Rattle.std.proofs.shelf.Lists.{append-nil, map-append}
 use Rattle.std.proofs.shelf.Tests.{cases-bool}
 use Rattle.std.proofs.shelf.Ways.{tells}
 use Rattle.std.proofs.shelf.Elements.{all-append, all-weaker}
@@ -20,7 +20,7 @@ use Rattle.model.specs.Means.{Pairwise, Counts-lists, Rising}
 use Rattle.model.specs.Layouts.{member, touch}
 use Rattle.meaning.proofs.Base.{all-front, pairs-split}
 use Rattle.commits.proofs.Ties.{map-instead}
-use Rattle.commits.proofs.Rows.{all-both, pair-between}
+use Rattle.commits.proofs.Rows.{all-both, pair-between, flat-push}
 
 -- touched IDs --------------------------------------------------------------------------------------------------------
 
@@ -133,10 +133,6 @@ latest-some count id n (x ∷ ids) e = elim (cases-bool (member id ids)) [
       let z : x ≡ id = grind (arith, tells) in
       ap (λ w. latest id (cond w (count x) n) (entries-for count ids)) y ∙ latest-none count id (count x) ids m ∙ ap count z
 ]
-
-flat-push : (ts : List (List Entry)) (t : List Entry) → flat (ts ++ (t ∷ [])) ≡ flat ts ++ t
-flat-push [] t = append-nil t
-flat-push (u ∷ ts) t = ap (λ z. u ++ z) (flat-push ts t) ∙ sym (append-assoc u (flat ts) t)
 
 count-after : (ts : List (List Entry)) (t : List Entry) (id : ℕ) → count-in (ts ++ (t ∷ [])) id ≡ latest id (count-in ts id) t
 count-after ts t id = ap (λ z. latest id 0 z) (flat-push ts t) ∙ latest-row id 0 (flat ts) t

@@ -28,9 +28,9 @@ use Rattle.commits.specs.Body.{Right, Body, with-one, with-fragment, last-frag
 use Rattle.commits.specs.Laid.{Laid}
 use Rattle.commits.proofs.Sizes.{length-new-fragment}
 use Rattle.commits.proofs.Store.{applied-row}
-use Rattle.commits.proofs.Rows.{flat-instead}
+use Rattle.commits.proofs.Rows.{flat-instead, last-push}
 use Rattle.commits.proofs.NodeAdded.{Made, ended}
-use Rattle.commits.proofs.Bodies.{Kept, Data-fits, body-fits, body-spill, last-push, row-old}
+use Rattle.commits.proofs.Bodies.{Kept, Data-fits, body-fits, body-spill, row-old}
 
 -- the list of a tail -------------------------------------------------------------------------------------------------
 

@@ -18,7 +18,8 @@ use Rattle.model.specs.Section.{Log, flat, last-of}
 use Rattle.model.specs.Means.{Apart, Pairwise, Inside, Chain, entries-of, log-row, closed, Counts-lists, Rising, Logs}
 use Rattle.meaning.proofs.Frames.{le-in}
 use Rattle.meaning.proofs.Local.{span-local}
-use Rattle.commits.proofs.Rows.{pair-between}
+use Rattle.meaning.proofs.Members.{flat-append}
+use Rattle.commits.proofs.Rows.{pair-between, last-push, flat-push}
 
 -- frames -----------------------------------------------------------------------------------------------------------
 
@@ -94,13 +95,8 @@ rising-row : (before xs ys : List Entry) → Rising before xs → Rising (before
 rising-row before [] ys a c = subst (λ z. Rising z ys) (append-nil before) c
 rising-row before (x ∷ xs) ys (p, a) c = (p, rising-row (before ++ (x ∷ [])) xs ys a (subst (λ z. Rising z ys) (sym (append-assoc before (x ∷ []) xs)) c))
 
-flat-push : (ts : List (List Entry)) (t : List Entry) → flat (ts ++ (t ∷ [])) ≡ flat ts ++ t
-flat-push [] t = append-nil t
-flat-push (u ∷ ts) t = ap (λ z. u ++ z) (flat-push ts t) ∙ sym (append-assoc u (flat ts) t)
-
 closed-push : (ts : List (List Entry)) (t : List Entry) → flat (map closed (ts ++ (t ∷ []))) ≡ flat (map closed ts) ++ closed t
-closed-push [] t = append-nil (closed t)
-closed-push (u ∷ ts) t = ap (λ z. closed u ++ z) (closed-push ts t) ∙ sym (append-assoc (closed u) (flat (map closed ts)) (closed t))
+closed-push ts t = flat-append closed ts (t ∷ []) ∙ ap (λ z. flat (map closed ts) ++ z) (append-nil (closed t))
 
 rising-push : (ts : List (List Entry)) (t : List Entry) → Rising [] (flat ts ++ []) → Rising (flat ts) t → Rising [] (flat (ts ++ (t ∷ [])) ++ [])
 rising-push ts t a c =
@@ -160,10 +156,6 @@ log-fits b c h h′ l t g a e r n w p q =
       ends = omega (arith, g .ends);
     }
 
-last-next : {A : Type 0} (d : A) (xs : List A) (x : A) → last-of d (xs ++ (x ∷ [])) ≡ x
-last-next d [] x = refl
-last-next d (y ∷ xs) x = last-next y xs x
-
 -- LOG, where the entries go on in a new fragment
 pub log-spills : (b c : List ℕ) (h h′ : Header) (l : Log) (t fit rest : List Entry) (x : Span) → Logs b h l → Log-agree b c (l .fragments) (l .used) → h .end ≤ h′ .end → h′ .log ≡ h .log → h′ .count ≡ h .count + 1
     → Follows (l .transactions) t → closed t ≡ fit ++ rest → l .used + length fit ≡ entries-in (last-of (span 0 0) (l .fragments) .size)
@@ -197,7 +189,7 @@ log-spills b c h h′ l t fit rest x g a e r n w s p q y z u v i o m =
         inside = all-append (Inside 12 (h′ .end)) fs (x ∷ []) (inside-later (h .end) (h′ .end) fs e (k .inside)) (i, tt);
         apart = pair-between Apart (header-span ∷ fs) x [] (subst (λ w. Pairwise Apart w) (sym (append-nil (header-span ∷ fs))) (k .apart)) o tt;
         few = omega (arith, length-append fs (x ∷ []));
-        places = subst (λ w. length rest ≤ entries-in (w .size)) (sym (last-next d fs x)) v;
+        places = subst (λ w. length rest ≤ entries-in (w .size)) (sym (last-push d fs x)) v;
         row = whole ∙ sym (closed-push ts t) ∙ sym (append-nil (flat (map closed (ts ++ (t ∷ [])))));
         lists = all-append Counts-lists ts (t ∷ []) (k .lists) (w .lists, tt);
         pending-lists = tt;

@@ -1,14 +1,13 @@
 -- The log's writes of a commit, all cases: its entries fit into the last log fragment, or go on in a new one at the draft's end.
-use Prim.Native.Nat.{ℕ, _+_, _-_, _*_, _^_, _%_, _<_, _≤_}
+use Prim.Native.Nat.{ℕ, _+_, _-_, _*_, _%_, _<_, _≤_}
 use mathlib.Core.Path.{_≡_, refl, sym, ap, _∙_, subst}
 use mathlib.Core.Logic.{_⊎_, inl, inr}
-use mathlib.Core.Bool.{true, false}
 use mathlib.Core.List.{List, [], _∷_, _++_}
 use native.Mathlib.Omega.{arith}
 use lib.Dec.{ltb}
 use lib.ListN.{length, getD, take, drop, replicate}
 use Rattle.std.specs.shelf.Lists.{All}
-use Rattle.std.proofs.shelf.Lists.{append-assoc, append-nil, length-append, length-replicate, length-take, length-drop, take-all, drop-all, take-append-drop}
+use Rattle.std.proofs.shelf.Lists.{append-assoc, length-append, length-take, length-drop, take-all, drop-all, take-append-drop}
 use Rattle.std.proofs.shelf.Tests.{cases-bool, cases-lt}
 use Rattle.std.proofs.shelf.Ways.{tells}
 use Rattle.std.proofs.shelf.Elements.{all-append, all-weaker}
@@ -22,7 +21,7 @@ use Rattle.model.specs.Section.{Log, NodeList, Section, last-of, list-fragments
 use Rattle.model.specs.Means.{Apart, Pairwise, Inside, entries-of, closed, Logs, data-spans}
 use Rattle.model.specs.Layouts.{Layout}
 use Rattle.model.specs.Saving.{at-end}
-use Rattle.model.specs.Committing.{count-entries, new-entries, if-any, Logged, logged}
+use Rattle.model.specs.Committing.{count-entries, new-entries, if-any, logged}
 use Rattle.meaning.proofs.Base.{all-front, pairs-split}
 use Rattle.commits.specs.Stored.{Stored}
 use Rattle.commits.specs.Body.{Body, up-to}

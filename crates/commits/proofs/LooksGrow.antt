@@ -17,11 +17,10 @@ use Rattle.model.specs.declared.types.Span.{Span}
 use Rattle.model.specs.declared.types.Entry.{Entry}
 use Rattle.model.specs.Bytes.{piece, same-row, applied}
 use Rattle.model.specs.Faults.{fault, Outcome, done, refused, unless, then}
-use Rattle.model.specs.References.{span, absent, present}
+use Rattle.model.specs.References.{span, absent}
 use Rattle.model.specs.Nodes.{Node}
-use Rattle.model.specs.Section.{Log, NodeList, Section, flat, latest, count-in, count-at}
+use Rattle.model.specs.Section.{Section, flat, latest, count-in, count-at}
 use Rattle.model.specs.OpenedLists.{taken}
-use Rattle.model.specs.Opened.{opened}
 use Rattle.model.specs.Means.{Rising, Stands, Means}
 use Rattle.model.specs.Looks.{Look, node-look, data-look, alike, looks-to, Seen, node, bytes, equal, no-node, nodes-of, node-of, reference-of, data-of, seen-in, answered, look}
 use Rattle.model.specs.Layouts.{Add, blank}
@@ -29,12 +28,13 @@ use Rattle.model.specs.Saving.{layout}
 use Rattle.model.specs.Committing.{count-entries, logged, committing}
 use Rattle.model.specs.Contents.{Content, holds, saved}
 use Rattle.model.specs.Laws.{add-writes, Looks-grow}
-use Rattle.meaning.proofs.Members.{In, all-in}
+use Rattle.meaning.proofs.Members.{all-in}
 use Rattle.meaning.proofs.OpensMeans.{opens-means}
 use Rattle.commits.proofs.HeadBack.{headed}
 use Rattle.commits.proofs.Counting.{latest-absent, latest-row}
 use Rattle.commits.proofs.Drafts.{blank-drafted}
 use Rattle.commits.proofs.CommitReads.{taken-in, nodes-in, Read-after, read-after}
+use Rattle.commits.proofs.Rows.{flat-join}
 
 -- two nodes that hold the same are seen alike ------------------------------------------------------------------------------
 
@@ -150,10 +150,6 @@ rising-most id before (e ∷ es) (p, r) =
 rising-back : (before xs ys : List Entry) → Rising before (xs ++ ys) → Rising (before ++ xs) ys
 rising-back before [] ys r = rw append-nil r
 rising-back before (x ∷ xs) ys (p, r) = subst (λ z. Rising z ys) (append-assoc before (x ∷ []) xs) (rising-back (before ++ (x ∷ [])) xs ys r)
-
-flat-join : (ts us : List (List Entry)) → flat (ts ++ us) ≡ flat ts ++ flat us
-flat-join [] us = refl
-flat-join (t ∷ ts) us = ap (λ z. t ++ z) (flat-join ts us) ∙ sym (append-assoc t (flat ts) (flat us))
 
 -- a list's count at k is at most its last
 count-most : (ts : List (List Entry)) (k id : ℕ) → Rising [] (flat ts) → count-in (take k ts) id ≤ count-in ts id

@@ -21,7 +21,9 @@ use Rattle.model.specs.Section.{last-of}
 use Rattle.model.specs.Means.{Apart, Pairwise, Inside, Good, Nodes, Spread, within, across, Marked, Numbered, List-part}
 use Rattle.meaning.proofs.Frames.{le-in}
 use Rattle.meaning.proofs.Local.{Agree, spread-local, nodes-inside, nodes-reach}
+use Rattle.meaning.proofs.Base.{apart-back}
 use Rattle.commits.specs.Around.{Around, Ahead}
+use Rattle.commits.proofs.Rows.{last-all}
 
 -- frames -----------------------------------------------------------------------------------------------------------
 
@@ -102,18 +104,10 @@ ahead-other g lo [] q a = tt
 ahead-other g lo (f ∷ []) q (x, a) = inr x
 ahead-other g lo (f ∷ (f′ ∷ fs)) q (x, a) = (x, ahead-other g lo (f′ ∷ fs) q a)
 
--- the last of a list is one of it
-last-all : {A : Type 0} (P : A → Type 0) (d x : A) (xs : List A) → All P (x ∷ xs) → P (last-of d (x ∷ xs))
-last-all P d x [] (p, a) = p
-last-all P d x (y ∷ ys) (p, a) = last-all P x y ys a
-
-apart-sym : (f g : Span) → Apart f g → Apart g f
-apart-sym f g a i x y = a i y x
-
 pub ahead-own : (d : Span) (fs : List Span) (q : ℕ) → Pairwise Apart fs → Ahead (last-of d fs) q fs q
 ahead-own d [] q a = tt
 ahead-own d (f ∷ []) q a = inl (refl, omega arith)
-ahead-own d (f ∷ (f′ ∷ fs)) q (a, as′) = (apart-sym f (last-of f (f′ ∷ fs)) (last-all (Apart f) f f′ fs a), ahead-own f (f′ ∷ fs) q as′)
+ahead-own d (f ∷ (f′ ∷ fs)) q (a, as′) = (apart-back f (last-of f (f′ ∷ fs)) (last-all (Apart f) f f′ fs a), ahead-own f (f′ ∷ fs) q as′)
 
 -- one node more ------------------------------------------------------------------------------------------------------------
 
