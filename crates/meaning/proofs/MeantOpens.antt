@@ -20,14 +20,14 @@ use Rattle.model.specs.References.{end-of}
 use Rattle.model.specs.Headers.{header-span, most, file-type, file-format, Header, header-at}
 use Rattle.model.specs.Nodes.{Node, referring}
 use Rattle.model.specs.Section.{Log, NodeList, Section, flat, list-fragments}
-use Rattle.model.specs.OpenedLog.{log-from}
+use Rattle.model.specs.OpenedLog.{log-from, reading}
 use Rattle.model.specs.OpenedLists.{named-first, lists-from}
-use Rattle.model.specs.Opened.{header-checks, data-checks, opened}
+use Rattle.model.specs.Opened.{header-checks, data-checks, opened, all-data, last-part, part-lists, part-log}
 use Rattle.model.specs.Means.{Apart, Headed, data-spans, Means, In-order}
 use Rattle.model.specs.Laws.{Meant-opens}
 use Rattle.meaning.proofs.Base.{Clean, unless-clean, all-front, apart-overlaps}
 use Rattle.meaning.proofs.Members.{In, has-from-in, in-map, in-flat, in-unflat, all-in, all-from-in}
-use Rattle.meaning.proofs.ReadLog.{reading, logs-read}
+use Rattle.meaning.proofs.ReadLog.{logs-read}
 use Rattle.meaning.proofs.ReadQueue.{Stock, Right, lists-read, lists-read-in-order}
 
 -- header -----------------------------------------------------------------------------------------------------------
@@ -81,9 +81,6 @@ same-fragments log S T P k a =
       let (l, j, w) = in-unflat (λ (l : NodeList). l .fragments) T f i in
       all-in P (list-fragments S) f v (in-flat (λ (l : NodeList). l .fragments) S l f (k l j) w)))
 
-abbrev pub all-data : Header → Log → List NodeList → List Check
-all-data h log ls = flat (map (λ l. data-checks (h .end) (log .fragments ++ list-fragments ls) (l .id) (referring 1 (l .nodes))) ls)
-
 -- DATA: references that are right pass
 pub data-clean : (h : Header) (log : Log) (S T : List NodeList) → ((l : NodeList) → In l T → In l S)
     → All (λ r. end-of r ≤ h .end) (data-spans S) → All (λ r. All (Apart r) (header-span ∷ (log .fragments ++ list-fragments S))) (data-spans S)
@@ -107,15 +104,6 @@ pub record Opens (b : List ℕ) (s : Section) : Type 0 where
   pub log : log-from 2048 b (s .header) [] 0xA0 (s .header .log) (reading [] []) ≡ done (s .log)
   pub lists : lists-from 1024 b (s .header) (s .log) (named-first (s .header)) [] ≡ done (s .lists)
   pub content : Clean (all-data (s .header) (s .log) (s .lists))
-
-abbrev pub last-part : Header → Log → List NodeList → Outcome Section
-last-part h log ls = unless (all-data h log ls) (done (record { header = h; log = log; lists = ls }))
-
-abbrev pub part-lists : List ℕ → Header → Log → Outcome Section
-part-lists b h log = then (lists-from 1024 b h log (named-first h) []) (last-part h log)
-
-abbrev pub part-log : List ℕ → Header → Outcome Section
-part-log b h = then (log-from 2048 b h [] 0xA0 (h .log) (reading [] [])) (part-lists b h)
 
 pub opened-step : (b : List ℕ) → opened b ≡ unless (header-checks b) (part-log b (header-at b))
 unfolding opened

@@ -17,16 +17,15 @@ use Rattle.model.specs.References.{end-of}
 use Rattle.model.specs.Headers.{header-span, most, file-type, file-format, Header, header-at}
 use Rattle.model.specs.Nodes.{Node, referring}
 use Rattle.model.specs.Section.{Log, NodeList, Section, flat, list-fragments, first-of}
-use Rattle.model.specs.OpenedLog.{log-from}
+use Rattle.model.specs.OpenedLog.{log-from, reading}
 use Rattle.model.specs.OpenedLists.{Named, named-first, lists-from}
-use Rattle.model.specs.Opened.{header-checks, data-checks, opened}
+use Rattle.model.specs.Opened.{header-checks, data-checks, opened, all-data, last-part, part-lists, part-log}
 use Rattle.model.specs.Means.{Apart, Pairwise, Headed, Logs, named-in, Reached, by-header, data-spans, Means, In-order}
 use Rattle.model.specs.Laws.{Opened-means, Same-lists}
 use Rattle.meaning.proofs.Base.{Clean, unless-done, then-done, all-front, overlaps-apart}
 use Rattle.meaning.proofs.Members.{has-from-in, in-from-has, in-map, all-in, all-from-in}
-use Rattle.meaning.proofs.ReadLog.{reading}
 use Rattle.meaning.proofs.ReadQueue.{spans}
-use Rattle.meaning.proofs.MeantOpens.{Opens, all-data, last-part, part-lists, part-log, opened-step, means-opens, meant-opens, means-opens-in-order}
+use Rattle.meaning.proofs.MeantOpens.{Opens, opened-step, means-opens, meant-opens, means-opens-in-order}
 use Rattle.meaning.proofs.StandLog.{logs-stand}
 use Rattle.meaning.proofs.StandQueue.{So-far, lists-stand}
 

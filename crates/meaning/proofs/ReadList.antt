@@ -20,7 +20,7 @@ use Rattle.model.specs.Nodes.{Node, node-at, hands-over}
 use Rattle.model.specs.ListFragments.{owner, unmarked, sequence, nodes-from, nodes-to}
 use Rattle.model.specs.Section.{Log, NodeList, last-of, count-in, first-of}
 use Rattle.model.specs.OpenedLog.{outside, overlaps}
-use Rattle.model.specs.OpenedLists.{NodePart, counted, uncounted, nodes-at, taken, list-from}
+use Rattle.model.specs.OpenedLists.{NodePart, counted, uncounted, nodes-at, taken, list-from, list-goes, list-checks}
 use Rattle.model.specs.Means.{Apart, Pairwise, Inside, Nodes, Spread, within, across, Marked, Numbered, Stands}
 use Rattle.meaning.proofs.Meant.{good-stays, good-passes, nodes-read}
 use Rattle.meaning.proofs.Base.{Clean, unless-clean, inside-passes, apart-overlaps, apart-before}
@@ -60,24 +60,10 @@ spread-some b f (g ∷ gs) ms q (across ns ks p w h e r a) l =
 
 -- fragments --------------------------------------------------------------------------------------------------------
 
--- what comes after a fragment's nodes
-abbrev pub list-goes : ℕ → List ℕ → ℕ → ℕ → List NodeList → List Span → ℕ → Span → List Span → NodePart → Outcome NodeList
-list-goes n b end count ls before id f fs (counted ms q) = done (record { id = id; fragments = fs ++ (f ∷ []); nodes = ms; free = q })
-list-goes n b end count ls before id f fs (uncounted ms) = list-from n b end count ls before id (nodes-to f) (span-at b (nodes-to f)) (fs ++ (f ∷ [])) ms
-
-abbrev pub list-checks : List ℕ → ℕ → ℕ → List NodeList → List Span → ℕ → ℕ → Span → List Span → List Check
-list-checks b end count ls before id field f fs =
-    (outside 36 end f, fault 5 3 field (cond (eqb (length fs) 0) 0 id))
-    ∷ (overlaps f (before ++ fs), fault 11 3 field (cond (eqb (length fs) 0) 0 id))
-    ∷ (unmarked b f || not (eqb (sequence b f) (length fs)) || not (eqb (owner b f) id) || ltb id 16, fault 8 3 (f .start) (cond (eqb (length fs) 0) 0 id))
-    ∷ (eqb (length fs) 0 && taken id ls, fault 12 3 (f .start) id)
-    ∷ (eqb (length fs) 0 && eqb count 0, fault 10 3 (f .start) id)
-    ∷ []
-
 pub list-step : (n : ℕ) (b : List ℕ) (end count : ℕ) (ls : List NodeList) (before : List Span) (id field : ℕ) (f : Span) (fs : List Span) (ns : List Node)
     → list-from (suc n) b end count ls before id field f fs ns
       ≡ unless (list-checks b end count ls before id field f fs)
-          (then (nodes-at (count - length ns) b id (nodes-to f) (nodes-from f) ns) (list-goes n b end count ls before id f fs))
+          (then (nodes-at (count - length ns) b id (nodes-to f) (nodes-from f) ns) (list-goes (list-from n b end count ls before id) b id f fs))
 unfolding list-from
 list-step n b end count ls before id field f fs ns = refl
 
@@ -105,11 +91,11 @@ list-passes b end count ls before id field f fs gs i m r a t c =
 list-part : (n : ℕ) (b : List ℕ) (end count : ℕ) (ls : List NodeList) (before : List Span) (id field : ℕ) (f : Span) (fs gs : List Span) (ns : List Node) (a : NodePart)
     → Inside 36 end f → Marked b id (length fs) f → 16 ≤ id → Pairwise Apart (header-span ∷ ((before ++ fs) ++ (f ∷ gs))) → taken id ls ≡ false → 1 ≤ count
     → nodes-at (count - length ns) b id (nodes-to f) (nodes-from f) ns ≡ done a
-    → list-from (suc n) b end count ls before id field f fs ns ≡ list-goes n b end count ls before id f fs a
+    → list-from (suc n) b end count ls before id field f fs ns ≡ list-goes (list-from n b end count ls before id) b id f fs a
 list-part n b end count ls before id field f fs gs ns a i m r p t c e =
     list-step n b end count ls before id field f fs ns
     ∙ unless-clean (list-checks b end count ls before id field f fs) _ (list-passes b end count ls before id field f fs gs i m r p t c)
-    ∙ ap (λ w. then w (list-goes n b end count ls before id f fs)) e
+    ∙ ap (λ w. then w (list-goes (list-from n b end count ls before id) b id f fs)) e
 
 abbrev pub list-is : ℕ → List Span → List Node → ℕ → NodeList
 list-is id fs ns q = record { id = id; fragments = fs; nodes = ns; free = q }

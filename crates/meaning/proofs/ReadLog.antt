@@ -18,12 +18,9 @@ use Rattle.model.specs.References.{span-at}
 use Rattle.model.specs.Headers.{header-span, Header}
 use Rattle.model.specs.LogFragments.{entry-at, sentinel, entries-in, entry-place, log-next}
 use Rattle.model.specs.Section.{Log, flat, last-of, latest}
-use Rattle.model.specs.OpenedLog.{outside, overlaps, Reading, LogPart, finished, unfinished, log-entries, log-from}
+use Rattle.model.specs.OpenedLog.{outside, overlaps, Reading, LogPart, finished, unfinished, log-entries, log-from, reading, log-goes, log-checks}
 use Rattle.model.specs.Means.{Apart, Pairwise, Inside, Chain, entries-of, log-row, closed, Counts-lists, Rising, Logs}
 use Rattle.meaning.proofs.Base.{Clean, unless-clean, inside-passes, apart-overlaps, apart-before}
-
-abbrev pub reading : List (List Entry) → List Entry → Reading
-reading ts pending = record { transactions = ts; pending = pending }
 
 -- where a log is that is right: ts are read, and `pending` of the next transaction; of that t is left, and the transactions us behind it
 -- what is left of the row
@@ -163,19 +160,15 @@ entries-end (suc m) (suc n) b count f i ts pending [] (u ∷ us) a c q l =
 
 -- fragments --------------------------------------------------------------------------------------------------------
 
-abbrev pub log-goes : ℕ → List ℕ → Header → List Span → Span → LogPart → Outcome Log
-log-goes n b h fs f (finished ts used) = done (record { fragments = fs ++ (f ∷ []); transactions = ts; used = used })
-log-goes n b h fs f (unfinished r) = log-from n b h (fs ++ (f ∷ [])) (log-next f) (span-at b (log-next f)) r
-
 pub log-step : (n : ℕ) (b : List ℕ) (h : Header) (fs : List Span) (field : ℕ) (f : Span) (r : Reading)
     → log-from (suc n) b h fs field f r
-      ≡ unless ((outside 12 (h .end) f, fault 5 2 field 0) ∷ (overlaps f fs, fault 11 2 field 0) ∷ [])
-          (then (log-entries (entries-in (f .size)) b (h .count) f 0 r) (log-goes n b h fs f))
+      ≡ unless (log-checks (h .end) fs field f)
+          (then (log-entries (entries-in (f .size)) b (h .count) f 0 r) (log-goes (log-from n b h) b fs f))
 unfolding log-from
 log-step n b h fs field f r = refl
 
 log-passes : (h : Header) (fs : List Span) (field : ℕ) (f : Span) (gs : List Span) → Inside 12 (h .end) f → Pairwise Apart (header-span ∷ (fs ++ (f ∷ gs)))
-    → Clean ((outside 12 (h .end) f, fault 5 2 field 0) ∷ (overlaps f fs, fault 11 2 field 0) ∷ [])
+    → Clean (log-checks (h .end) fs field f)
 log-passes h fs field f gs i a =
     let c = apart-before (header-span ∷ fs) f gs a in
     (inside-passes 12 (h .end) f (omega arith) i, (apart-overlaps f fs (c .0) (c .1), tt))
@@ -183,10 +176,10 @@ log-passes h fs field f gs i a =
 -- where a log goes after a fragment's entries
 log-part : (n : ℕ) (b : List ℕ) (h : Header) (fs : List Span) (field : ℕ) (f : Span) (gs : List Span) (r : Reading) (a : LogPart)
     → Inside 12 (h .end) f → Pairwise Apart (header-span ∷ (fs ++ (f ∷ gs))) → log-entries (entries-in (f .size)) b (h .count) f 0 r ≡ done a
-    → log-from (suc n) b h fs field f r ≡ log-goes n b h fs f a
+    → log-from (suc n) b h fs field f r ≡ log-goes (log-from n b h) b fs f a
 log-part n b h fs field f gs r a i p e =
-    log-step n b h fs field f r ∙ unless-clean ((outside 12 (h .end) f, fault 5 2 field 0) ∷ (overlaps f fs, fault 11 2 field 0) ∷ []) _ (log-passes h fs field f gs i p)
-    ∙ ap (λ w. then w (log-goes n b h fs f)) e
+    log-step n b h fs field f r ∙ unless-clean (log-checks (h .end) fs field f) _ (log-passes h fs field f gs i p)
+    ∙ ap (λ w. then w (log-goes (log-from n b h) b fs f)) e
 
 length-entries : (b : List ℕ) (f : Span) (i n : ℕ) → length (entries-of b f i n) ≡ n
 length-entries b f i zero = refl

@@ -19,7 +19,7 @@ use Rattle.model.specs.References.{span}
 use Rattle.model.specs.Headers.{header-span, Header}
 use Rattle.model.specs.ListFragments.{owner}
 use Rattle.model.specs.Section.{Log, NodeList, flat, count-in, list-fragments, first-of}
-use Rattle.model.specs.OpenedLists.{taken, list-from, Named, named-by, named-first, lists-from}
+use Rattle.model.specs.OpenedLists.{taken, list-from, Named, named-by, named-first, lists-from, named-list}
 use Rattle.model.specs.Means.{Apart, Pairwise, Spread, Numbered, Stands, named-in, Reached, by-header, by-node, In-order}
 use Rattle.meaning.proofs.Base.{pairs-split, pairs-move-in, apart-back, Cross}
 use Rattle.meaning.proofs.Members.{In, in-from-has, in-left, in-right, in-cases, in-map, in-unmap, in-flat, in-unflat, all-in, all-from-in, pick, in-without, in-with, in-at, pigeon, same-by-key, flat-append}
@@ -129,10 +129,6 @@ not-taken id (k ∷ ls) (p, a) =
 
 cross-one : {X : Type 0} (R : X → X → Type 0) (xs ys : List X) (y : X) → Cross R xs (y ∷ ys) → All (λ x. R x y) xs
 cross-one R xs ys y c = all-weaker (λ x. All (R x) (y ∷ ys)) (λ x. R x y) (λ x a. a .0) xs c
-
-abbrev pub named-list : List ℕ → Header → Log → List NodeList → Named → ℕ → Outcome NodeList
-named-list b h log ls q id =
-    list-from (2048 - length (log .fragments ++ list-fragments ls)) b (h .end) (count-in (log .transactions) id) ls (log .fragments ++ list-fragments ls) id (q .0) (q .1) [] []
 
 pub lists-step : (n : ℕ) (b : List ℕ) (h : Header) (log : Log) (q : Named) (qs : List Named) (ls : List NodeList)
     → lists-from (suc n) b h log (q ∷ qs) ls ≡ then (named-list b h log ls q (owner b (q .1))) (λ l. lists-from n b h log (qs ++ named-by l) (ls ++ (l ∷ [])))

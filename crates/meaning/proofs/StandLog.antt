@@ -19,10 +19,10 @@ use Rattle.model.specs.References.{span, span-at}
 use Rattle.model.specs.Headers.{header-span, Header}
 use Rattle.model.specs.LogFragments.{entry-at, sentinel, entries-in, entry-place, log-next}
 use Rattle.model.specs.Section.{Log, flat, last-of, latest}
-use Rattle.model.specs.OpenedLog.{outside, overlaps, Reading, LogPart, finished, unfinished, log-entries, log-from}
+use Rattle.model.specs.OpenedLog.{outside, overlaps, Reading, LogPart, finished, unfinished, log-entries, log-from, reading, log-goes, log-checks}
 use Rattle.model.specs.Means.{Apart, Pairwise, Inside, Chain, entries-of, log-row, closed, Counts-lists, Rising, Logs}
 use Rattle.meaning.proofs.Base.{unless-done, then-done, inside, overlaps-apart, pairs-push}
-use Rattle.meaning.proofs.ReadLog.{reading, log-goes, log-step, log-next-of, log-is, flat-push}
+use Rattle.meaning.proofs.ReadLog.{log-step, log-next-of, log-is, flat-push}
 
 -- entries ----------------------------------------------------------------------------------------------------------
 
@@ -195,7 +195,7 @@ unfolding log-from
 log-none b h fs field f r g e = grind (arith, tells)
 
 log-either : (n : ℕ) (b : List ℕ) (h : Header) (fs : List Span) (field : ℕ) (f : Span) (before : List Entry) (g : Log) (a : LogPart)
-    → Inside 12 (h .end) f → Pairwise Apart (header-span ∷ (fs ++ (f ∷ []))) → Entered (entries-in (f .size)) b (h .count) f 0 before a → log-goes n b h fs f a ≡ done g
+    → Inside 12 (h .end) f → Pairwise Apart (header-span ∷ (fs ++ (f ∷ []))) → Entered (entries-in (f .size)) b (h .count) f 0 before a → log-goes (log-from n b h) b fs f a ≡ done g
     → ((r : Reading) → Fair (r .transactions) (r .pending) → log-from n b h (fs ++ (f ∷ [])) (log-next f) (span-at b (log-next f)) r ≡ done g
         → Log-stands n b h (fs ++ (f ∷ [])) (span-at b (log-next f)) (row (r .transactions) (r .pending)) g)
     → Log-stands (suc n) b h fs f before g
@@ -209,8 +209,8 @@ pub log-stands : (n : ℕ) (b : List ℕ) (h : Header) (fs : List Span) (field :
     → Pairwise Apart (header-span ∷ fs) → log-from n b h fs field f r ≡ done g → Log-stands n b h fs f (row (r .transactions) (r .pending)) g
 log-stands zero b h fs field f r g fair p e = absurd (log-none b h fs field f r g e)
 log-stands (suc n) b h fs field f r g fair p e =
-    let (c, d) = unless-done ((outside 12 (h .end) f, fault 5 2 field 0) ∷ (overlaps f fs, fault 11 2 field 0) ∷ []) _ g (sym (log-step n b h fs field f r) ∙ e) in
-    let (a, x, y) = then-done (log-entries (entries-in (f .size)) b (h .count) f 0 r) (log-goes n b h fs f) g d in
+    let (c, d) = unless-done (log-checks (h .end) fs field f) _ g (sym (log-step n b h fs field f r) ∙ e) in
+    let (a, x, y) = then-done (log-entries (entries-in (f .size)) b (h .count) f 0 r) (log-goes (log-from n b h) b fs f) g d in
     let p′ : Pairwise Apart (header-span ∷ (fs ++ (f ∷ []))) = pairs-push (header-span ∷ fs) f p (overlaps-apart f fs (c .1 .0)) in
     log-either n b h fs field f (row (r .transactions) (r .pending)) g a (inside 12 (h .end) f (c .0)) p′
       (entries-stand (entries-in (f .size)) b (h .count) f 0 (r .transactions) (r .pending) a x fair) y

@@ -17,11 +17,11 @@ use Rattle.model.specs.Faults.{done}
 use Rattle.model.specs.Headers.{header-span, Header}
 use Rattle.model.specs.ListFragments.{owner}
 use Rattle.model.specs.Section.{Log, NodeList, count-in, list-fragments, first-of}
-use Rattle.model.specs.OpenedLists.{taken, Named, named-by, lists-from}
+use Rattle.model.specs.OpenedLists.{taken, Named, named-by, lists-from, named-list}
 use Rattle.model.specs.Means.{Apart, Pairwise, Stands, Reached, by-node}
 use Rattle.meaning.proofs.Base.{then-done, pairs-join}
 use Rattle.meaning.proofs.Members.{has-from-in, in-map, in-at, all-from-in, flat-append}
-use Rattle.meaning.proofs.ReadQueue.{spans, Order, order-more, named-list, lists-step, lists-end}
+use Rattle.meaning.proofs.ReadQueue.{spans, Order, order-more, lists-step, lists-end}
 use Rattle.meaning.proofs.StandList.{list-fits, list-new}
 
 taken-not : (id : ℕ) (ls : List NodeList) → taken id ls ≡ false → All (λ k. k .id ≢ id) ls
