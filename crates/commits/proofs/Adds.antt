@@ -27,7 +27,7 @@ use Rattle.model.specs.Looks.{nodes-of}
 use Rattle.model.specs.Layouts.{Add, plain, with-data, branch, Tail, tail, Layout, tail-of, member, touch, find-tail, ending-at, more-fragments, more-lists}
 use Rattle.model.specs.Saving.{Plan, at-end, with-node, planned}
 use Rattle.model.specs.Contents.{Content, content-of, holds, saved-by}
-use Rattle.meaning.proofs.Base.{all-front}
+use Rattle.meaning.proofs.Base.{all-front, Data-fits, references}
 use Rattle.meaning.proofs.Members.{flat-append}
 use Rattle.commits.specs.Body.{Right, Body, Tied, up-to}
 use Rattle.commits.specs.Laid.{Laid}
@@ -35,7 +35,7 @@ use Rattle.commits.proofs.Sizes.{length-new-fragment}
 use Rattle.commits.proofs.Rows.{all-both}
 use Rattle.commits.proofs.NodeBack.{Fair, plain-of, referring-of}
 use Rattle.commits.proofs.NodeAdded.{Made, plain-made, referring-made}
-use Rattle.commits.proofs.Bodies.{Kept, Data-fits, referring-row, all-by-end, past-apart}
+use Rattle.commits.proofs.Bodies.{Kept, referring-row, all-by-end, past-apart}
 use Rattle.commits.proofs.Longer.{body-longer, body-list, new-list}
 use Rattle.commits.proofs.Ties.{tied-header, tied-push, tied-branch}
 use Rattle.commits.proofs.Store.{length-written, same-written, stored-written, stored-front, piece-stored}
@@ -85,7 +85,7 @@ pushed-holds : (c : List ℕ) (s : Section) (y : Layout) (pre : List NodeList) (
 pushed-holds c s y pre l post new n P X id d a q what =
     let ls : List NodeList = pre ++ (l ∷ post) in
     let c′ : List ℕ = applied c (P .writes) in
-    let F : Span → Type 0 = Data-fits (up-to (s .header) (y .end)) (s .log .fragments) ls in
+    let F : Span → Type 0 = Data-fits (y .end) (s .log .fragments ++ list-fragments ls) in
     let wh = d .body .whole in
     let wh′ = q .laid .body .whole in
     let ri = q .rises in
@@ -93,7 +93,7 @@ pushed-holds c s y pre l post new n P X id d a q what =
     let same : (r : Span) → F r → Data-same c c′ r = λ r x. (omega (arith, x .0), omega (arith, x .0), q .data-kept r x) in
     let olds : All F (data-spans ls) = all-both (λ r. end-of r ≤ y .end) (λ r. All (Apart r) (header-span ∷ (s .log .fragments ++ list-fragments ls))) F (data-spans ls) (λ r x z. (x, z)) (d .body .data-inside) (d .body .data-apart) in
     let h1 = lists-held c c′ ls id (all-weaker F (Data-same c c′) same (data-spans ls) olds) in
-    let h2 : map (holds c′) (at ∷ []) ≡ map (holds c) (at ∷ []) = nodes-held c c′ (at ∷ []) (all-weaker F (Data-same c c′) same (map (λ m. m .reference) (referring 1 (at ∷ []))) (a .data-fits (q .place))) in
+    let h2 : map (holds c′) (at ∷ []) ≡ map (holds c) (at ∷ []) = nodes-held c c′ (at ∷ []) (all-weaker F (Data-same c c′) same (references (at ∷ [])) (a .data-fits (q .place))) in
     let h3 : map (holds c′) (at ∷ []) ≡ X ∷ [] = h2 ∙ ap (λ (z : Content). z ∷ []) (what (q .place)) in
     ap (λ (z : List Node). map (holds c′) z) (nodes-push pre l (q .list) post at id (q .same) (q .nodes) (d .body .ids-differ))
     ∙ map-append (holds c′) (nodes-of ls id) (cond (eqb (l .id) id) (at ∷ []) [])
@@ -232,10 +232,10 @@ data-step c s y ls list id payload content d f i k o z m =
     } in
     let far : All (Apart r) (header-span ∷ (gs ++ list-fragments ls))
         = all-weaker (λ x. end-of x ≤ E) (Apart r) (λ x u i v w. past-apart E r x (omega arith) u i w v) (header-span ∷ (gs ++ list-fragments ls)) (all-by-end c h gs ls (d .laid .body)) in
-    let fit : Data-fits (up-to (s .header) e) gs ls r = (omega arith, far) in
+    let fit : Data-fits e (gs ++ list-fragments ls) r = (omega arith, far) in
     let st : piece (written c E P) E (length content) ≡ content = piece-stored (written c E P) E content (stored-front (written c E P) E content pad (stored-written c E P (d .laid .body .whole))) in
     let (ms, dr, gr) = simple-step (written c E P) s y1 ls list (referring-node id 1 r payload) (λ p. referring-of p id 1 r payload) (content-of id 1 (Some r) payload content) d1
-      (record { made = referring-made id 1 r payload i (omega arith) (omega arith) k (omega arith) (omega arith); data-fits = λ p. one-fits (Data-fits (up-to (s .header) e) gs ls) (referring-of p id 1 r payload) fit })
+      (record { made = referring-made id 1 r payload i (omega arith) (omega arith) k (omega arith) (omega arith); data-fits = λ p. one-fits (Data-fits e (gs ++ list-fragments ls)) (referring-of p id 1 r payload) fit })
       (omega arith) (f .highest) (omega (arith, f .fragments)) m (λ p. refl) (λ p. data-holds (written c E P) p id E payload content o st) in
     (ms, dr, record {
       grown = λ x. gr .grown x ∙ ap (λ (z : List Content). z ++ cond (eqb list x) (content-of id 1 (Some r) payload content ∷ []) []) (longer-held c s y ls P x (d .laid));
@@ -243,7 +243,7 @@ data-step c s y ls list id payload content d f i k o z m =
       higher = gr .higher;
     })
   where
-    one-fits : (Q : Span → Type 0) (n : Node) → Q (n .reference) → All Q (map (λ m. m .reference) (referring 1 (n ∷ [])))
+    one-fits : (Q : Span → Type 0) (n : Node) → Q (n .reference) → All Q (references (n ∷ []))
     one-fits Q n q = elim (cases-bool (eqb (n .base) 1 && present (n .reference))) [
       | inl e ↦ rw e (q, tt)
       | inr e ↦ rw e tt

@@ -20,7 +20,7 @@ use Rattle.model.specs.Nodes.{Node, referring}
 use Rattle.model.specs.ListFragments.{nodes-to, new-fragment}
 use Rattle.model.specs.Section.{NodeList, Section, last-of, list-fragments}
 use Rattle.model.specs.Means.{Apart, Pairwise, Inside, Spread, within, across, Stands, data-spans, Means}
-use Rattle.meaning.proofs.Base.{all-front, pairs-split, apart-back}
+use Rattle.meaning.proofs.Base.{all-front, pairs-split, apart-back, references, Data-fits}
 use Rattle.meaning.proofs.Members.{flat-append}
 use Rattle.commits.specs.Around.{Around}
 use Rattle.commits.specs.Body.{Right, Body, Tied, with-one, with-fragment, last-fragment, up-to}
@@ -91,35 +91,28 @@ referring-row base (n ∷ ns) ms = elim (cases-bool (eqb (n .base) base && prese
   | inr e ↦ rw (e, referring-row base ns ms)
 ]
 
-abbrev pub references : NodeList → List Span
-references l = map (λ n. n .reference) (referring 1 (l .nodes))
-
 data-push : (P : Span → Type 0) (pre : List NodeList) (l l′ : NodeList) (post : List NodeList) (n : Node) → l′ .nodes ≡ l .nodes ++ (n ∷ [])
-    → All P (data-spans (pre ++ (l ∷ post))) → All P (map (λ m. m .reference) (referring 1 (n ∷ []))) → All P (data-spans (pre ++ (l′ ∷ post)))
+    → All P (data-spans (pre ++ (l ∷ post))) → All P (references (n ∷ [])) → All P (data-spans (pre ++ (l′ ∷ post)))
 data-push P pre l l′ post n e a c =
-    let (x, y) = all-front (λ m. All P (references m)) pre (l ∷ post) (all-flat P references (pre ++ (l ∷ post)) a) in
-    let q : references l′ ≡ references l ++ map (λ m. m .reference) (referring 1 (n ∷ []))
-        = ap (λ (z : List Node). map (λ m. m .reference) (referring 1 z)) e ∙ ap (λ (z : List Node). map (λ m. m .reference) z) (referring-row 1 (l .nodes) (n ∷ [])) ∙ map-append (λ (m : Node). m .reference) (referring 1 (l .nodes)) (referring 1 (n ∷ [])) in
-    flat-all P references (pre ++ (l′ ∷ post)) (all-append (λ m. All P (references m)) pre (l′ ∷ post) x
-      (subst (λ z. All P z) (sym q) (all-append P (references l) (map (λ m. m .reference) (referring 1 (n ∷ []))) (y .0) c), y .1))
+    let (x, y) = all-front (λ m. All P (references (m .nodes))) pre (l ∷ post) (all-flat P (λ (m : NodeList). references (m .nodes)) (pre ++ (l ∷ post)) a) in
+    let q : references (l′ .nodes) ≡ references (l .nodes) ++ references (n ∷ [])
+        = ap (λ (z : List Node). references z) e ∙ ap (λ (z : List Node). map (λ m. m .reference) z) (referring-row 1 (l .nodes) (n ∷ [])) ∙ map-append (λ (m : Node). m .reference) (referring 1 (l .nodes)) (referring 1 (n ∷ [])) in
+    flat-all P (λ (m : NodeList). references (m .nodes)) (pre ++ (l′ ∷ post)) (all-append (λ m. All P (references (m .nodes))) pre (l′ ∷ post) x
+      (subst (λ z. All P z) (sym q) (all-append P (references (l .nodes)) (references (n ∷ [])) (y .0) c), y .1))
 
 -- it fits ------------------------------------------------------------------------------------------------------------
-
--- a reference to data that a new node may have
-abbrev pub Data-fits : Header → List Span → List NodeList → Span → Type 0
-Data-fits h gs ls r = (end-of r ≤ h .end) × All (Apart r) (header-span ∷ (gs ++ list-fragments ls))
 
 -- BODY, a node that fits
 pub body-fits : (b : List ℕ) (h : Header) (gs : List Span) (pre : List NodeList) (l : NodeList) (post : List NodeList) (new : List ℕ) (n : ℕ → Node)
     → Made new n → Body b h gs (pre ++ (l ∷ post)) → l .free + length new ≤ nodes-to (last-fragment l)
-    → All (Data-fits h gs (pre ++ (l ∷ post))) (map (λ m. m .reference) (referring 1 (n (l .free) ∷ [])))
+    → All (Data-fits (h .end) (gs ++ list-fragments (pre ++ (l ∷ post)))) (references (n (l .free) ∷ []))
     → Body (written b (l .free) new) h gs (pre ++ (with-one l (n (l .free)) (l .free + length new) ∷ post)) × All (Kept b (written b (l .free) new)) (header-span ∷ gs)
-      × ((r : Span) → Data-fits h gs (pre ++ (l ∷ post)) r → Kept b (written b (l .free) new) r)
+      × ((r : Span) → Data-fits (h .end) (gs ++ list-fragments (pre ++ (l ∷ post))) r → Kept b (written b (l .free) new) r)
 body-fits b h gs pre l post new n m d k w =
     let c : List ℕ = written b (l .free) new in
     let g = last-fragment l in
     let l′ : NodeList = with-one l (n (l .free)) (l .free + length new) in
-    let refs : List Span = map (λ m. m .reference) (referring 1 (n (l .free) ∷ [])) in
+    let refs : List Span = references (n (l .free) ∷ []) in
     let (r0, r1) = all-front (Right b h) pre (l ∷ post) (d .lists) in
     let (ap, a0, a1, a2, away) = own b h gs pre l post (r1 .0) (d .apart) in
     let (o, p) = fits-list b h (l .id) (l .fragments) (l .nodes) (l .free) new n m (d .whole) ap (r1 .0 .part) k in
@@ -134,10 +127,10 @@ body-fits b h gs pre l post new n m d k w =
       log-inside = d .log-inside;
       apart = subst (λ z. Pairwise Apart (header-span ∷ (gs ++ z))) (sym e) (d .apart);
       data-inside = data-push (λ r. end-of r ≤ h .end) pre l l′ post (n (l .free)) refl (d .data-inside)
-          (all-weaker (Data-fits h gs (pre ++ (l ∷ post))) (λ r. end-of r ≤ h .end) (λ r x. x .0) refs w);
+          (all-weaker (Data-fits (h .end) (gs ++ list-fragments (pre ++ (l ∷ post)))) (λ r. end-of r ≤ h .end) (λ r x. x .0) refs w);
       data-apart = subst (λ z. All (λ r. All (Apart r) (header-span ∷ (gs ++ z))) (data-spans (pre ++ (l′ ∷ post)))) (sym e)
           (data-push (λ r. All (Apart r) (header-span ∷ (gs ++ list-fragments (pre ++ (l ∷ post))))) pre l l′ post (n (l .free)) refl (d .data-apart)
-          (all-weaker (Data-fits h gs (pre ++ (l ∷ post))) (λ r. All (Apart r) (header-span ∷ (gs ++ list-fragments (pre ++ (l ∷ post))))) (λ r x. x .1) refs w));
+          (all-weaker (Data-fits (h .end) (gs ++ list-fragments (pre ++ (l ∷ post)))) (λ r. All (Apart r) (header-span ∷ (gs ++ list-fragments (pre ++ (l ∷ post))))) (λ r x. x .1) refs w));
     }, all-both (Apart g) (λ f. end-of f ≤ h .end) (Kept b c) (header-span ∷ gs) (λ f u v. other-same b c (h .end) g (l .free) o f u v) a2 (d .least, d .log-inside),
     λ r x. other-same b c (h .end) g (l .free) o r (away r (all-front (Apart r) gs (list-fragments (pre ++ (l ∷ post))) (x .1 .1) .1)) (x .0))
 
@@ -189,11 +182,11 @@ row-pairs gs pre l l′ post f e a p =
 -- BODY, a node that goes into a new fragment at the end
 pub body-spill : (b : List ℕ) (h : Header) (e : ℕ) (gs : List Span) (pre : List NodeList) (l : NodeList) (post : List NodeList) (new pad : List ℕ) (n : ℕ → Node)
     → Made new n → Body b h gs (pre ++ (l ∷ post)) → h .end + 1024 + length pad ≡ e → h .end < 2 ^ 64 → l .id < 2 ^ 32 → length (l .fragments) < 2 ^ 32
-    → All (Data-fits h gs (pre ++ (l ∷ post))) (map (λ m. m .reference) (referring 1 (n (h .end + 16) ∷ [])))
+    → All (Data-fits (h .end) (gs ++ list-fragments (pre ++ (l ∷ post)))) (references (n (h .end + 16) ∷ []))
     → Body (written (applied (written b (h .end) (new-fragment (l .id) (length (l .fragments)) new ++ pad)) (ended (l .free) (nodes-to (last-fragment l)))) (nodes-to (last-fragment l)) (span-bytes (span (h .end) 1024)))
       (up-to h e) gs (pre ++ (with-fragment l (span (h .end) 1024) (n (h .end + 16)) (h .end + 16 + length new) ∷ post))
       × All (Kept b (written (applied (written b (h .end) (new-fragment (l .id) (length (l .fragments)) new ++ pad)) (ended (l .free) (nodes-to (last-fragment l)))) (nodes-to (last-fragment l)) (span-bytes (span (h .end) 1024)))) (header-span ∷ gs)
-      × ((r : Span) → Data-fits h gs (pre ++ (l ∷ post)) r
+      × ((r : Span) → Data-fits (h .end) (gs ++ list-fragments (pre ++ (l ∷ post))) r
         → Kept b (written (applied (written b (h .end) (new-fragment (l .id) (length (l .fragments)) new ++ pad)) (ended (l .free) (nodes-to (last-fragment l)))) (nodes-to (last-fragment l)) (span-bytes (span (h .end) 1024))) r)
 body-spill b h e gs pre l post new pad n m d k u i j w =
     let E = h .end in
@@ -202,7 +195,7 @@ body-spill b h e gs pre l post new pad n m d k u i j w =
     let c : List ℕ = written (applied (written b E (new-fragment (l .id) (length (l .fragments)) new ++ pad)) (ended (l .free) (nodes-to (last-fragment l)))) (nodes-to (last-fragment l)) (span-bytes fresh) in
     let g = last-fragment l in
     let l′ : NodeList = with-fragment l fresh (n (E + 16)) (E + 16 + length new) in
-    let refs : List Span = map (λ m. m .reference) (referring 1 (n (E + 16) ∷ [])) in
+    let refs : List Span = references (n (E + 16) ∷ []) in
     let F : List Span = header-span ∷ (gs ++ list-fragments (pre ++ (l ∷ post))) in
     let (r0, r1) = all-front (Right b h) pre (l ∷ post) (d .lists) in
     let (ap, a0, a1, a2, away) = own b h gs pre l post (r1 .0) (d .apart) in

@@ -22,9 +22,9 @@ use Rattle.model.specs.Means.{Pairwise, data-spans}
 use Rattle.model.specs.Looks.{nodes-of, reference-of, data-of}
 use Rattle.model.specs.Contents.{content-of, holds}
 use Rattle.meaning.proofs.Frames.{piece-in}
-use Rattle.meaning.proofs.Base.{all-front}
+use Rattle.meaning.proofs.Base.{all-front, references}
 use Rattle.commits.proofs.NodeBack.{plain-of, referring-of}
-use Rattle.commits.proofs.Bodies.{Kept, references}
+use Rattle.commits.proofs.Bodies.{Kept}
 
 -- in another row ---------------------------------------------------------------------------------------------------------
 
@@ -37,29 +37,29 @@ same-holds : (b c : List ℕ) (n : Node) (r : Span) → data-of n ≡ r → piec
 same-holds b c n r e q =
     ap (λ (w : List ℕ). content-of (n .id) (n .base) (reference-of n) (n .payload) w) (subst (λ (z : Span). piece c (z .start) (z .size) ≡ piece b (z .start) (z .size)) (sym e) (sym q))
 
-pub nodes-held : (b c : List ℕ) (ns : List Node) → All (Data-same b c) (map (λ n. n .reference) (referring 1 ns)) → map (holds c) ns ≡ map (holds b) ns
+pub nodes-held : (b c : List ℕ) (ns : List Node) → All (Data-same b c) (references ns) → map (holds c) ns ≡ map (holds b) ns
 unfolding referring piece
 nodes-held b c [] a = refl
 nodes-held b c (n ∷ ns) a = elim (cases-bool (eqb (n .base) 1 && present (n .reference))) [
   | inl e ↦
-      let (p, r) : Data-same b c (n .reference) × All (Data-same b c) (map (λ n. n .reference) (referring 1 ns))
+      let (p, r) : Data-same b c (n .reference) × All (Data-same b c) (references ns)
           = subst (λ (z : List Node). All (Data-same b c) (map (λ n. n .reference) z)) (ap (λ z. cond z (n ∷ referring 1 ns) (referring 1 ns)) e) a in
       let q : piece b (n .reference .start) (n .reference .size) ≡ piece c (n .reference .start) (n .reference .size)
           = piece-in b c (n .reference .start) (end-of (n .reference)) (n .reference .start) (n .reference .size) (p .2) (p .0) (p .1) (omega arith) (omega arith) in
       let u : holds c n ≡ holds b n = same-holds b c n (n .reference) (ap (λ z. cond z (n .reference) (span 0 0)) e) q in
       cc (u, nodes-held b c ns r)
   | inr e ↦
-      let r : All (Data-same b c) (map (λ n. n .reference) (referring 1 ns))
+      let r : All (Data-same b c) (references ns)
           = subst (λ (z : List Node). All (Data-same b c) (map (λ n. n .reference) z)) (ap (λ z. cond z (n ∷ referring 1 ns) (referring 1 ns)) e) a in
       let u : holds c n ≡ holds b n = same-holds b c n (span 0 0) (ap (λ z. cond z (n .reference) (span 0 0)) e) refl in
       cc (u, nodes-held b c ns r)
 ]
 
-nodes-data : (P : Span → Type 0) (ls : List NodeList) (id : ℕ) → All P (data-spans ls) → All P (map (λ n. n .reference) (referring 1 (nodes-of ls id)))
+nodes-data : (P : Span → Type 0) (ls : List NodeList) (id : ℕ) → All P (data-spans ls) → All P (references (nodes-of ls id))
 unfolding nodes-of referring
 nodes-data P [] id a = tt
 nodes-data P (l ∷ ls) id a =
-    let (x, y) = all-front P (references l) (data-spans ls) a in
+    let (x, y) = all-front P (references (l .nodes)) (data-spans ls) a in
     elim (cases-bool (eqb (l .id) id)) [
       | inl e ↦ rw e x
       | inr e ↦ rw e (nodes-data P ls id y)

@@ -17,20 +17,20 @@ use Rattle.model.specs.declared.types.Span.{Span}
 use Rattle.model.specs.Bytes.{Write, put, written, applied, behind}
 use Rattle.model.specs.References.{span, span-bytes}
 use Rattle.model.specs.Headers.{header-span, Header}
-use Rattle.model.specs.Nodes.{Node, referring}
+use Rattle.model.specs.Nodes.{Node}
 use Rattle.model.specs.ListFragments.{nodes-from, nodes-to, new-fragment}
 use Rattle.model.specs.Section.{NodeList, Section, last-of, list-fragments, first-of}
 use Rattle.model.specs.Means.{Pairwise, Spread, within, across}
 use Rattle.model.specs.Layouts.{Tail, tail, Layout, tail-of, member, touch, find-tail, with-tail, ending-at, more-fragments, touching}
 use Rattle.model.specs.Saving.{Plan, with-node}
-use Rattle.meaning.proofs.Base.{all-front}
+use Rattle.meaning.proofs.Base.{all-front, Data-fits, references}
 use Rattle.commits.specs.Body.{Right, Body, with-one, with-fragment, last-fragment, up-to}
 use Rattle.commits.specs.Laid.{Laid}
 use Rattle.commits.proofs.Sizes.{length-new-fragment}
 use Rattle.commits.proofs.Store.{applied-row}
 use Rattle.commits.proofs.Rows.{flat-instead, last-push}
 use Rattle.commits.proofs.NodeAdded.{Made, ended}
-use Rattle.commits.proofs.Bodies.{Kept, Data-fits, body-fits, body-spill, row-old}
+use Rattle.commits.proofs.Bodies.{Kept, body-fits, body-spill, row-old}
 
 -- the list of a tail -------------------------------------------------------------------------------------------------
 
@@ -113,12 +113,12 @@ pub record Pushed (c : List ℕ) (s : Section) (y : Layout) (n : ℕ → Node) (
   pub rises : y .end ≤ p .layout .end
   pub kept : All (Kept c (applied c (p .writes))) (header-span ∷ s .log .fragments)
   -- data is apart from all fragments
-  pub data-kept : (r : Span) → Data-fits (up-to (s .header) (y .end)) (s .log .fragments) (pre ++ (l ∷ post)) r → Kept c (applied c (p .writes)) r
+  pub data-kept : (r : Span) → Data-fits (y .end) (s .log .fragments ++ list-fragments (pre ++ (l ∷ post))) r → Kept c (applied c (p .writes)) r
 
 -- a node that may be added to the lists
 pub record Addable (s : Section) (y : Layout) (ls : List NodeList) (new : List ℕ) (n : ℕ → Node) : Type 0 where
   pub made : Made new n
-  pub data-fits : (p : ℕ) → All (Data-fits (up-to (s .header) (y .end)) (s .log .fragments) ls) (map (λ m. m .reference) (referring 1 (n p ∷ [])))
+  pub data-fits : (p : ℕ) → All (Data-fits (y .end) (s .log .fragments ++ list-fragments ls)) (references (n p ∷ []))
 
 pushed-fits : (c : List ℕ) (s : Section) (y : Layout) (pre : List NodeList) (l : NodeList) (post : List NodeList) (new : List ℕ) (n : ℕ → Node)
     → Laid c s y (pre ++ (l ∷ post)) → Addable s y (pre ++ (l ∷ post)) new n → l .free + length new ≤ nodes-to (last-fragment l)

@@ -18,6 +18,7 @@ use Rattle.model.specs.ListFragments.{nodes-to, new-fragment}
 use Rattle.model.specs.Section.{NodeList, list-fragments}
 use Rattle.model.specs.Means.{Apart, Pairwise, within, data-spans}
 use Rattle.meaning.proofs.Members.{flat-append}
+use Rattle.meaning.proofs.Base.{references}
 use Rattle.commits.specs.Stored.{Stored}
 use Rattle.commits.specs.Around.{Around}
 use Rattle.commits.specs.Body.{Right, Body, up-to}
@@ -27,7 +28,7 @@ use Rattle.commits.proofs.FragmentBack.{fragment-back}
 use Rattle.commits.proofs.Rows.{all-both, pair-between}
 use Rattle.commits.proofs.PartKept.{part-kept, ahead-other}
 use Rattle.commits.proofs.NodeAdded.{Made, around-none, around-past}
-use Rattle.commits.proofs.Bodies.{all-by-end, past-apart, references}
+use Rattle.commits.proofs.Bodies.{all-by-end, past-apart}
 
 -- nothing of the old file is written: a fragment of no bytes
 all-apart : (fs : List Span) → All (Apart (span 0 0)) fs
@@ -89,7 +90,7 @@ body-list b h e gs ls id new pad n m d k r i a w =
     let x : header-span ∷ (gs ++ list-fragments (ls ++ (l ∷ []))) ≡ F ++ (fresh ∷ [])
         = ap (λ z. header-span ∷ z) (ap (λ z. gs ++ z) (flat-append (λ (m : NodeList). m .fragments) ls (l ∷ [])) ∙ sym (append-assoc gs (list-fragments ls) (fresh ∷ []))) in
     let y : data-spans (ls ++ (l ∷ [])) ≡ data-spans ls
-        = flat-append references ls (l ∷ []) ∙ ap (λ (z : List Node). data-spans ls ++ (map (λ m. m .reference) z ++ [])) w ∙ append-nil (data-spans ls) in
+        = flat-append (λ (l : NodeList). references (l .nodes)) ls (l ∷ []) ∙ ap (λ (z : List Node). data-spans ls ++ (map (λ m. m .reference) z ++ [])) w ∙ append-nil (data-spans ls) in
     let both : All (λ r. (end-of r ≤ E) × All (Apart r) F) (data-spans ls)
         = all-both (λ r. end-of r ≤ E) (λ r. All (Apart r) F) (λ r. (end-of r ≤ E) × All (Apart r) F) (data-spans ls) (λ r x y. (x, y)) (d .data-inside) (d .data-apart) in
     record {

@@ -4,7 +4,7 @@ use Prim.Native.Nat.{ℕ, _≤_}
 use mathlib.Core.Path.{_≡_, refl}
 use mathlib.Core.Logic.{inl, inr}
 use mathlib.Core.Bool.{true, false}
-use mathlib.Core.List.{List, [], _∷_, _++_}
+use mathlib.Core.List.{List, [], _∷_, _++_, map}
 use native.Mathlib.Omega.{arith}
 use lib.Dec.{leb}
 use Rattle.std.specs.shelf.Lists.{All}
@@ -13,10 +13,11 @@ use Rattle.std.proofs.shelf.Tests.{cases-bool, or-from, or-parts}
 use Rattle.std.proofs.shelf.Elements.{all-append, all-weaker}
 use Rattle.model.specs.declared.types.Span.{Span}
 use Rattle.model.specs.Faults.{Outcome, done, refused, Check, unless, then}
-use Rattle.model.specs.References.{share, meets}
+use Rattle.model.specs.References.{share, meets, end-of}
 use Rattle.model.specs.Headers.{header-span}
 use Rattle.model.specs.OpenedLog.{outside, overlaps}
 use Rattle.model.specs.Means.{Within, Apart, Pairwise, Inside}
+use Rattle.model.specs.Nodes.{Node, referring}
 
 -- outcomes ---------------------------------------------------------------------------------------------------------
 
@@ -156,3 +157,13 @@ overlaps-apart r ss e = let (x, y) = or-parts (share r header-span) (meets r ss)
 pub pairs-push : (xs : List Span) (f : Span) → Pairwise Apart xs → All (Apart f) xs → Pairwise Apart (xs ++ (f ∷ []))
 pairs-push [] f a c = (tt, tt)
 pairs-push (x ∷ xs) f (p, a) (q, c) = (all-append (Apart x) xs (f ∷ []) p (apart-back f x q, tt), pairs-push xs f a c)
+
+-- data -------------------------------------------------------------------------------------------------------------
+
+-- the present references to data of some nodes
+abbrev pub references : List Node → List Span
+references ns = map (λ n. n .reference) (referring 1 ns)
+
+-- data that ends by the file's end, and shares no byte with the header or a fragment
+abbrev pub Data-fits : ℕ → List Span → Span → Type 0
+Data-fits end fs r = (end-of r ≤ end) × All (Apart r) (header-span ∷ fs)

@@ -15,7 +15,7 @@ use Rattle.std.proofs.shelf.Tests.{and-from}
 use Rattle.std.proofs.shelf.Elements.{all-append}
 use Rattle.model.specs.declared.types.Span.{Span}
 use Rattle.model.specs.Bytes.{le, piece, same-row}
-use Rattle.model.specs.Faults.{Outcome, done, Check, unless, then}
+use Rattle.model.specs.Faults.{done, Check, unless, then}
 use Rattle.model.specs.References.{end-of}
 use Rattle.model.specs.Headers.{header-span, most, file-type, file-format, Header, header-at}
 use Rattle.model.specs.Nodes.{Node, referring}
@@ -25,7 +25,7 @@ use Rattle.model.specs.OpenedLists.{named-first, lists-from}
 use Rattle.model.specs.Opened.{header-checks, data-checks, opened, all-data, last-part, part-lists, part-log}
 use Rattle.model.specs.Means.{Apart, Headed, data-spans, Means, In-order}
 use Rattle.model.specs.Laws.{Meant-opens}
-use Rattle.meaning.proofs.Base.{Clean, unless-clean, all-front, apart-overlaps}
+use Rattle.meaning.proofs.Base.{Clean, unless-clean, all-front, apart-overlaps, Data-fits, references}
 use Rattle.meaning.proofs.Members.{In, has-from-in, in-map, in-flat, in-unflat, all-in, all-from-in}
 use Rattle.meaning.proofs.ReadLog.{logs-read}
 use Rattle.meaning.proofs.ReadQueue.{Stock, Right, lists-read, lists-read-in-order}
@@ -59,12 +59,9 @@ headed-passes b h r =
 
 -- data -------------------------------------------------------------------------------------------------------------
 
-abbrev pub Data-fits : ℕ → List Span → Node → Type 0
-Data-fits end fs n = (end-of (n .reference) ≤ end) × Apart (n .reference) header-span × All (Apart (n .reference)) fs
-
-data-passes : (end : ℕ) (fs : List Span) (id : ℕ) (ns : List Node) → All (Data-fits end fs) ns → Clean (data-checks end fs id ns)
+data-passes : (end : ℕ) (fs : List Span) (id : ℕ) (ns : List Node) → All (λ n. Data-fits end fs (n .reference)) ns → Clean (data-checks end fs id ns)
 data-passes end fs id [] a = tt
-data-passes end fs id (n ∷ ns) ((x, y, z), a) =
+data-passes end fs id (n ∷ ns) ((x, (y, z)), a) =
     let e : ltb end (end-of (n .reference)) ≡ false = grind (arith, tells) in
     (e, (apart-overlaps (n .reference) fs y z, data-passes end fs id ns a))
 
@@ -88,12 +85,12 @@ pub data-clean : (h : Header) (log : Log) (S T : List NodeList) → ((l : NodeLi
 data-clean h log S T k inside apart =
     all-flat (λ (c : Check). c .0 ≡ false) (λ (l : NodeList). data-checks (h .end) (log .fragments ++ list-fragments T) (l .id) (referring 1 (l .nodes))) T (λ l i.
       data-passes (h .end) (log .fragments ++ list-fragments T) (l .id) (referring 1 (l .nodes))
-        (all-from-in (Data-fits (h .end) (log .fragments ++ list-fragments T)) (referring 1 (l .nodes)) (λ n j.
+        (all-from-in (λ (n : Node). Data-fits (h .end) (log .fragments ++ list-fragments T) (n .reference)) (referring 1 (l .nodes)) (λ n j.
           let r : In (n .reference) (data-spans S)
-              = in-flat (λ (l : NodeList). map (λ (n : Node). n .reference) (referring 1 (l .nodes))) S l (n .reference) (k l i) (in-map (λ (n : Node). n .reference) (referring 1 (l .nodes)) n j) in
+              = in-flat (λ (l : NodeList). references (l .nodes)) S l (n .reference) (k l i) (in-map (λ (n : Node). n .reference) (referring 1 (l .nodes)) n j) in
           let a : All (Apart (n .reference)) (header-span ∷ (log .fragments ++ list-fragments S))
               = all-in (λ r. All (Apart r) (header-span ∷ (log .fragments ++ list-fragments S))) (data-spans S) (n .reference) apart r in
-          (all-in (λ r. end-of r ≤ h .end) (data-spans S) (n .reference) inside r, a .0, same-fragments log S T (Apart (n .reference)) k (a .1)))))
+          (all-in (λ r. end-of r ≤ h .end) (data-spans S) (n .reference) inside r, (a .0, same-fragments log S T (Apart (n .reference)) k (a .1))))))
 
 -- opening ----------------------------------------------------------------------------------------------------------
 

@@ -22,7 +22,7 @@ use Rattle.model.specs.OpenedLists.{Named, named-first, lists-from}
 use Rattle.model.specs.Opened.{header-checks, data-checks, opened, all-data, last-part, part-lists, part-log}
 use Rattle.model.specs.Means.{Apart, Pairwise, Headed, Logs, named-in, Reached, by-header, data-spans, Means, In-order}
 use Rattle.model.specs.Laws.{Opened-means, Same-lists}
-use Rattle.meaning.proofs.Base.{Clean, unless-done, then-done, all-front, overlaps-apart}
+use Rattle.meaning.proofs.Base.{Clean, unless-done, then-done, all-front, overlaps-apart, references}
 use Rattle.meaning.proofs.Members.{has-from-in, in-from-has, in-map, all-in, all-from-in}
 use Rattle.meaning.proofs.ReadQueue.{spans}
 use Rattle.meaning.proofs.MeantOpens.{Opens, opened-step, means-opens, meant-opens, means-opens-in-order}
@@ -58,11 +58,8 @@ passes-headed b (x, (y, (z, (w, (u, (v, t)))))) = record {
 
 -- data -------------------------------------------------------------------------------------------------------------
 
-abbrev references : List Node → List Span
-references ns = map (λ n. n .reference) ns
-
 data-right : (end : ℕ) (fs : List Span) (id : ℕ) (ns : List Node) → Clean (data-checks end fs id ns)
-    → All (λ r. end-of r ≤ end) (references ns) × All (λ r. All (Apart r) (header-span ∷ fs)) (references ns)
+    → All (λ r. end-of r ≤ end) (map (λ n. n .reference) ns) × All (λ r. All (Apart r) (header-span ∷ fs)) (map (λ n. n .reference) ns)
 data-right end fs id [] c = (tt, tt)
 data-right end fs id (n ∷ ns) (x, (y, c)) =
     let l : end-of (n .reference) ≤ end = grind (arith, tells) in
@@ -78,8 +75,8 @@ all-data-right end fs (l ∷ ls) c =
         (flat (map (λ (l : NodeList). data-checks end fs (l .id) (referring 1 (l .nodes))) ls)) c in
     let (u, v) = data-right end fs (l .id) (referring 1 (l .nodes)) x in
     let (z, w) = all-data-right end fs ls y in
-    (all-append (λ (r : Span). end-of r ≤ end) (references (referring 1 (l .nodes))) (data-spans ls) u z,
-      all-append (λ (r : Span). All (Apart r) (header-span ∷ fs)) (references (referring 1 (l .nodes))) (data-spans ls) v w)
+    (all-append (λ (r : Span). end-of r ≤ end) (references (l .nodes)) (data-spans ls) u z,
+      all-append (λ (r : Span). All (Apart r) (header-span ∷ fs)) (references (l .nodes)) (data-spans ls) v w)
 
 -- opening ----------------------------------------------------------------------------------------------------------
 

@@ -2,7 +2,7 @@
 -- Assumes nothing.
 use Prim.Native.Nat.{ℕ, zero, suc, _+_, _-_, _<_, _≤_}
 use mathlib.Core.Path.{_≡_, refl, sym, ap, _∙_, subst}
-use mathlib.Core.Bool.{true, false, cond, not, _&&_, _||_}
+use mathlib.Core.Bool.{true, false, not, _||_}
 use mathlib.Core.List.{List, [], _∷_, _++_}
 use native.Mathlib.Omega.{arith}
 use lib.Dec.{eqb, ltb}
@@ -13,13 +13,12 @@ use Rattle.std.proofs.shelf.Ways.{tells}
 use Rattle.std.proofs.shelf.Tests.{and-right}
 use Rattle.model.specs.declared.types.Span.{Span}
 use Rattle.model.specs.Bytes.{le}
-use Rattle.model.specs.Faults.{fault, Outcome, done, Check, unless, then}
+use Rattle.model.specs.Faults.{done, unless, then}
 use Rattle.model.specs.References.{span-at}
 use Rattle.model.specs.Headers.{header-span, Header}
 use Rattle.model.specs.Nodes.{Node, node-at, hands-over}
 use Rattle.model.specs.ListFragments.{owner, unmarked, sequence, nodes-from, nodes-to}
 use Rattle.model.specs.Section.{Log, NodeList, last-of, count-in, first-of}
-use Rattle.model.specs.OpenedLog.{outside, overlaps}
 use Rattle.model.specs.OpenedLists.{NodePart, counted, uncounted, nodes-at, taken, list-from, list-goes, list-checks}
 use Rattle.model.specs.Means.{Apart, Pairwise, Inside, Nodes, Spread, within, across, Marked, Numbered, Stands}
 use Rattle.meaning.proofs.Meant.{good-stays, good-passes, nodes-read}

@@ -14,7 +14,7 @@ use Rattle.std.proofs.shelf.Ways.{tells}
 use Rattle.std.proofs.shelf.Tests.{or-from}
 use Rattle.std.proofs.shelf.Elements.{all-weaker}
 use Rattle.model.specs.declared.types.Span.{Span}
-use Rattle.model.specs.Faults.{Outcome, done, then}
+use Rattle.model.specs.Faults.{done, then}
 use Rattle.model.specs.References.{span}
 use Rattle.model.specs.Headers.{header-span, Header}
 use Rattle.model.specs.ListFragments.{owner}
