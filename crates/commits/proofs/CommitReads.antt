@@ -30,7 +30,7 @@ use Rattle.meaning.proofs.OpensMeans.{opens-means}
 use Rattle.commits.proofs.HeadBack.{headed}
 use Rattle.commits.proofs.Contents.{lists-held}
 use Rattle.commits.proofs.Drafts.{blank-drafted, adds-drafted}
-use Rattle.commits.proofs.Saved.{commit-done}
+use Rattle.commits.proofs.DraftCommitted.{commit-done}
 
 -- the order of the lists does not matter ---------------------------------------------------------------------------------
 

@@ -31,7 +31,8 @@ use Rattle.commits.proofs.Bodies.{body-means}
 use Rattle.commits.proofs.Layouts.{with-node-highest}
 use Rattle.commits.proofs.Counting.{Counting, Counts}
 use Rattle.commits.proofs.Bounds.{blank-highest, blank-counts}
-use Rattle.commits.proofs.Adds.{Drafted, Grows, Stepped, Fine, plain-step, data-step, branch-step}
+use Rattle.commits.proofs.Adds.{Drafted, Stepped, Fine, plain-step, data-step, branch-step}
+use Rattle.commits.proofs.Growth.{Grows}
 
 -- what the checks say ------------------------------------------------------------------------------------------------------
 

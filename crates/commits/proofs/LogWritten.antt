@@ -32,8 +32,8 @@ use Rattle.commits.proofs.HeadBack.{headed}
 use Rattle.commits.proofs.Rows.{all-both, all-between, pair-between, last-all}
 use Rattle.commits.proofs.Bodies.{Kept, all-by-end, past-apart}
 use Rattle.commits.proofs.LogAdded.{Log-agree, Follows, log-fits, log-spills, log-some, split-log, next-inside}
-use Rattle.commits.proofs.Commits.{body-same}
 use Rattle.commits.proofs.Adds.{Drafted, Fine}
+use Rattle.commits.proofs.SameRow.{body-same}
 
 -- which bytes stay ------------------------------------------------------------------------------------------------------
 

@@ -34,11 +34,12 @@ use Rattle.commits.proofs.HeadBack.{headed, head-rest}
 use Rattle.commits.proofs.Bodies.{Kept}
 use Rattle.commits.proofs.Ties.{tied-header}
 use Rattle.commits.proofs.LogAdded.{Follows}
-use Rattle.commits.proofs.Commits.{head-kept, commit-head, headed-same, heading-same}
 use Rattle.commits.proofs.Counting.{Counts, counted-after, rising-entries, counts-lists}
 use Rattle.commits.proofs.Contents.{Data-same}
 use Rattle.commits.proofs.Adds.{Drafted, Fine}
 use Rattle.commits.proofs.LogWritten.{beside-apart, log-done}
+use Rattle.commits.proofs.SameRow.{headed-same, heading-same}
+use Rattle.commits.proofs.HeaderWritten.{head-kept, commit-head}
 
 -- each list's tail is found by its ID
 tails-count : (ls : List NodeList) → Pairwise (λ l m. l .id ≢ m .id) ls → All (λ l. find-tail (map tail-of ls) (l .id) .count ≡ length (l .nodes)) ls

@@ -1,34 +1,27 @@
--- A commit: from the draft's lists and the log's new entries to the whole.
--- Assumes nothing.
-use Prim.Native.Nat.{ℕ, _+_, _^_, _<_, _≤_}
+-- The lists, the log and the header stand in another row that has their bytes.
+use Prim.Native.Nat.{ℕ, _+_, _≤_}
 use mathlib.Core.Path.{_≡_, sym, _∙_}
-use mathlib.Core.Logic.{inl, inr}
-use mathlib.Core.List.{List, [], _∷_, _++_}
+use mathlib.Core.List.{List, [], _∷_}
 use native.Mathlib.Omega.{arith}
 use lib.ListN.{length, take}
 use Rattle.std.specs.shelf.Lists.{All}
 use Rattle.std.proofs.shelf.Lists.{ext-getD, length-take, getD-take}
-use Rattle.std.proofs.shelf.Tests.{cases-lt}
 use Rattle.std.proofs.shelf.Elements.{all-weaker}
 use Rattle.model.specs.declared.types.Span.{Span}
-use Rattle.model.specs.Bytes.{applied, Same}
+use Rattle.model.specs.Bytes.{Same}
 use Rattle.model.specs.References.{span, end-of}
 use Rattle.model.specs.Headers.{header-span, Header, header-at}
 use Rattle.model.specs.LogFragments.{entries-in}
-use Rattle.model.specs.Section.{Log, NodeList, Section, last-of, count-in, list-fragments}
-use Rattle.model.specs.Means.{Apart, Inside, Headed, Logs, Numbered, Stands, data-spans, Means}
+use Rattle.model.specs.Section.{Log, NodeList, last-of, list-fragments}
+use Rattle.model.specs.Means.{Inside, Headed, Logs, Numbered, data-spans}
 use Rattle.model.specs.Committing.{header-write}
 use Rattle.meaning.proofs.Frames.{le-in, piece-in}
 use Rattle.meaning.proofs.Local.{Agree, spread-local, span-local}
-use Rattle.meaning.proofs.Base.{all-front}
-use Rattle.commits.specs.Body.{Right, Body, Tied}
-use Rattle.commits.proofs.HeadBack.{headed, header-back, head-rest}
+use Rattle.commits.specs.Body.{Right, Body}
 use Rattle.commits.proofs.Rows.{all-both, all-flat}
 use Rattle.commits.proofs.PartKept.{marked-same, spread-ends, inside-more}
 use Rattle.commits.proofs.Bodies.{Kept}
 use Rattle.commits.proofs.LogAdded.{Log-agree, row-local, chain-local, next-inside}
-
--- lists in another row that has their fragments ------------------------------------------------------------------------------
 
 numbered-same : (b c : List ℕ) (end id i : ℕ) (fs : List Span) → All (Inside 36 end) fs → All (Kept b c) fs → Numbered b id i fs → Numbered c id i fs
 numbered-same b c end id i [] a k m = tt
@@ -54,7 +47,7 @@ right-same b c h h′ l x y z k r =
       ends = r .ends;
     }
 
--- BODY, in another row that has the lists' fragments
+-- the lists' fragments are the same
 pub body-same : (b c : List ℕ) (h h′ : Header) (gs : List Span) (ls : List NodeList) → Body b h gs ls → h .end ≤ h′ .end → h′ .end ≤ length c → All (Kept b c) (list-fragments ls) → Body c h′ gs ls
 body-same b c h h′ gs ls d x y k =
     let bl = d .whole in
@@ -69,41 +62,12 @@ body-same b c h h′ gs ls d x y k =
       data-apart = d .data-apart;
     }
 
--- the header's write leaves what is apart from the header
-pub head-kept : (b c : List ℕ) (f : Span) → ((hi : ℕ) → Same b c 512 hi) → Apart header-span f → Kept b c f
-head-kept b c f s a i l k = elim (cases-lt i 1024) [
-  | inl x ↦ absurd (a i (omega arith, omega arith) (l, k))
-  | inr x ↦ s (end-of f) i (omega arith) k
-]
-
--- the whole --------------------------------------------------------------------------------------------------------
-
-pub means-from : (c : List ℕ) (h : Header) (log : Log) (ls : List NodeList) → Headed c h → Logs c h log → Body c h (log .fragments) ls → Tied h ls
-    → All (λ l. length (l .nodes) ≡ count-in (log .transactions) (l .id)) ls → length ls ≤ 1024 → length (log .fragments ++ list-fragments ls) ≤ 2048
-    → Means c (record { header = h; log = log; lists = ls })
-means-from c h log ls a g d t k x y = record {
-  header = a;
-  log = g;
-  lists = all-both (Right c h) (λ l. length (l .nodes) ≡ count-in (log .transactions) (l .id)) (Stands c h log) ls (λ l u v. record { part = u .part; counted = v; ends = u .ends }) (d .lists) k;
-  reached = t .reached;
-  named = t .named;
-  once = t .once;
-  ids-differ = d .ids-differ;
-  fragments-apart = d .apart;
-  data-inside = d .data-inside;
-  data-apart = d .data-apart;
-  few-lists = x;
-  few-fragments = y;
-}
-
--- the header's write -----------------------------------------------------------------------------------------------------
-
 kept-agree : (b c : List ℕ) (end : ℕ) (fs : List Span) (used : ℕ) → All (Inside 12 end) fs → All (Kept b c) fs → used ≤ entries-in (last-of (span 0 0) fs .size) → Log-agree b c fs used
 kept-agree b c end [] used i k u = tt
 kept-agree b c end (f ∷ []) used ((x, y), i) (s, k) u = let n = next-inside f x in λ j l h. s j l (omega arith)
 kept-agree b c end (f ∷ (g ∷ gs)) used ((x, y), i) (s, k) u = (s, kept-agree b c end (g ∷ gs) used i k u)
 
--- LOG, in another row that has its fragments
+-- the log's fragments are the same
 pub logs-same : (b c : List ℕ) (h : Header) (l : Log) → All (Kept b c) (l .fragments) → Logs b h l → Logs c h l
 logs-same b c h l k g =
     let p = g .part in
@@ -124,24 +88,7 @@ logs-same b c h l k g =
       ends = g .ends;
     }
 
--- HEADER: the last write makes the whole
-pub commit-head : (c : List ℕ) (s : Section) (log : Log) (ls : List NodeList) (end : ℕ) (guid : List ℕ) → Headed c (s .header) → length guid ≡ 16
-    → s .header .count + 1 < 2 ^ 32 → s .header .generation + 1 < 2 ^ 64 → end ≤ 2 ^ 40
-    → Logs c (headed (s .header) end guid) log → Body c (headed (s .header) end guid) (log .fragments) ls → Tied (headed (s .header) end guid) ls
-    → All (λ l. length (l .nodes) ≡ count-in (log .transactions) (l .id)) ls → length ls ≤ 1024 → length (log .fragments ++ list-fragments ls) ≤ 2048
-    → Means (applied c (header-write c (s .header) end guid ∷ [])) (record { header = headed (s .header) end guid; log = log; lists = ls })
-commit-head c s log ls end guid a g u v w l d t k x y =
-    let H : Header = headed (s .header) end guid in
-    let c2 : List ℕ = applied c (header-write c (s .header) end guid ∷ []) in
-    let lf : List Span = list-fragments ls in
-    let (e, r) = head-rest c (s .header) end guid (a .whole) g in
-    let wh = d .whole in
-    let (p0, p1) = all-front (Apart header-span) (log .fragments) lf (d .apart .0) in
-    let k1 : All (Kept c c2) lf = all-weaker (Apart header-span) (Kept c c2) (λ f z. head-kept c c2 f r z) lf p1 in
-    let k2 : All (Kept c c2) (log .fragments) = all-weaker (Apart header-span) (Kept c c2) (λ f z. head-kept c c2 f r z) (log .fragments) p0 in
-    means-from c2 H log ls (header-back c (s .header) end guid a g u v (d .least) w wh) (logs-same c c2 H log k2 l) (body-same c c2 H H (log .fragments) ls d (omega arith) (omega arith) k1) t k x y
-
--- HEADER, in another row that has its bytes
+-- the header's bytes are the same
 pub headed-same : (b c : List ℕ) (h : Header) → Kept b c header-span → h .end ≤ length c → Headed b h → Headed c h
 headed-same b c h s l m =
     let w = m .whole in
@@ -167,6 +114,7 @@ headed-same b c h s l m =
       counts = m .counts;
     }
 
+-- the header's write is made from the first 512 bytes
 take-same : (b c : List ℕ) (n : ℕ) → n ≤ length b → n ≤ length c → Same b c 0 n → take n b ≡ take n c
 take-same b c n x y s =
     let u : length (take n b) ≡ n = length-take n b ∙ omega arith in
