@@ -20,10 +20,11 @@ use Rattle.model.specs.Nodes.{Node, referring}
 use Rattle.model.specs.ListFragments.{nodes-to, new-fragment}
 use Rattle.model.specs.Section.{NodeList, Section, last-of, list-fragments}
 use Rattle.model.specs.Means.{Apart, Pairwise, Inside, Spread, within, across, Stands, data-spans, Means}
+use Rattle.model.specs.Laws.{last-fragment}
 use Rattle.meaning.proofs.Base.{all-front, pairs-split, apart-back, references, Data-fits}
 use Rattle.meaning.proofs.Members.{flat-append}
 use Rattle.commits.specs.Around.{Around}
-use Rattle.commits.specs.Body.{Right, Body, Tied, with-one, with-fragment, last-fragment, up-to}
+use Rattle.commits.specs.Body.{Right, Body, Tied, with-one, with-fragment, up-to}
 use Rattle.commits.proofs.Rows.{all-between, all-both, pair-between, pair-instead, all-flat, flat-all, flat-instead, last-push}
 use Rattle.commits.proofs.PartKept.{other-same, part-kept, ahead-other}
 use Rattle.commits.proofs.NodeAdded.{Made, fits-list, spill-list, ended}
@@ -51,13 +52,13 @@ spread-last b P d (across {f = f} ns ms p h o e t u) a = spread-last b P f t (a 
 -- the list's fragments are apart from each other, and its last from those of the others
 own : (b : List ℕ) (h : Header) (gs : List Span) (pre : List NodeList) (l : NodeList) (post : List NodeList) → Right b h l
     → Pairwise Apart (header-span ∷ (gs ++ list-fragments (pre ++ (l ∷ post))))
-    → Pairwise Apart (l .fragments) × All (λ m. All (Apart (last-fragment l)) (m .fragments)) pre × All (λ m. All (Apart (last-fragment l)) (m .fragments)) post
-      × All (Apart (last-fragment l)) (header-span ∷ gs) × ((x : Span) → All (Apart x) (list-fragments (pre ++ (l ∷ post))) → Apart (last-fragment l) x)
+    → Pairwise Apart (l .fragments) × All (λ m. All (Apart (last-fragment (l .fragments))) (m .fragments)) pre × All (λ m. All (Apart (last-fragment (l .fragments))) (m .fragments)) post
+      × All (Apart (last-fragment (l .fragments))) (header-span ∷ gs) × ((x : Span) → All (Apart x) (list-fragments (pre ++ (l ∷ post))) → Apart (last-fragment (l .fragments)) x)
 own b h gs pre l post r (p0, p) =
     let A = list-fragments pre in
     let B = list-fragments post in
     let fs = l .fragments in
-    let g = last-fragment l in
+    let g = last-fragment (l .fragments) in
     let (x0, p1, x1) = pairs-split Apart gs (list-fragments (pre ++ (l ∷ post))) p in
     let p2 : Pairwise Apart (A ++ (fs ++ B)) = subst (λ z. Pairwise Apart z) (flat-append (λ (m : NodeList). m .fragments) pre (l ∷ post)) p1 in
     let (x2, p3, a1) = pairs-split Apart A (fs ++ B) p2 in
@@ -104,13 +105,13 @@ data-push P pre l l′ post n e a c =
 
 -- BODY, a node that fits
 pub body-fits : (b : List ℕ) (h : Header) (gs : List Span) (pre : List NodeList) (l : NodeList) (post : List NodeList) (new : List ℕ) (n : ℕ → Node)
-    → Made new n → Body b h gs (pre ++ (l ∷ post)) → l .free + length new ≤ nodes-to (last-fragment l)
+    → Made new n → Body b h gs (pre ++ (l ∷ post)) → l .free + length new ≤ nodes-to (last-fragment (l .fragments))
     → All (Data-fits (h .end) (gs ++ list-fragments (pre ++ (l ∷ post)))) (references (n (l .free) ∷ []))
     → Body (written b (l .free) new) h gs (pre ++ (with-one l (n (l .free)) (l .free + length new) ∷ post)) × All (Kept b (written b (l .free) new)) (header-span ∷ gs)
       × ((r : Span) → Data-fits (h .end) (gs ++ list-fragments (pre ++ (l ∷ post))) r → Kept b (written b (l .free) new) r)
 body-fits b h gs pre l post new n m d k w =
     let c : List ℕ = written b (l .free) new in
-    let g = last-fragment l in
+    let g = last-fragment (l .fragments) in
     let l′ : NodeList = with-one l (n (l .free)) (l .free + length new) in
     let refs : List Span = references (n (l .free) ∷ []) in
     let (r0, r1) = all-front (Right b h) pre (l ∷ post) (d .lists) in
@@ -183,17 +184,17 @@ row-pairs gs pre l l′ post f e a p =
 pub body-spill : (b : List ℕ) (h : Header) (e : ℕ) (gs : List Span) (pre : List NodeList) (l : NodeList) (post : List NodeList) (new pad : List ℕ) (n : ℕ → Node)
     → Made new n → Body b h gs (pre ++ (l ∷ post)) → h .end + 1024 + length pad ≡ e → h .end < 2 ^ 64 → l .id < 2 ^ 32 → length (l .fragments) < 2 ^ 32
     → All (Data-fits (h .end) (gs ++ list-fragments (pre ++ (l ∷ post)))) (references (n (h .end + 16) ∷ []))
-    → Body (written (applied (written b (h .end) (new-fragment (l .id) (length (l .fragments)) new ++ pad)) (ended (l .free) (nodes-to (last-fragment l)))) (nodes-to (last-fragment l)) (span-bytes (span (h .end) 1024)))
+    → Body (written (applied (written b (h .end) (new-fragment (l .id) (length (l .fragments)) new ++ pad)) (ended (l .free) (nodes-to (last-fragment (l .fragments))))) (nodes-to (last-fragment (l .fragments))) (span-bytes (span (h .end) 1024)))
       (up-to h e) gs (pre ++ (with-fragment l (span (h .end) 1024) (n (h .end + 16)) (h .end + 16 + length new) ∷ post))
-      × All (Kept b (written (applied (written b (h .end) (new-fragment (l .id) (length (l .fragments)) new ++ pad)) (ended (l .free) (nodes-to (last-fragment l)))) (nodes-to (last-fragment l)) (span-bytes (span (h .end) 1024)))) (header-span ∷ gs)
+      × All (Kept b (written (applied (written b (h .end) (new-fragment (l .id) (length (l .fragments)) new ++ pad)) (ended (l .free) (nodes-to (last-fragment (l .fragments))))) (nodes-to (last-fragment (l .fragments))) (span-bytes (span (h .end) 1024)))) (header-span ∷ gs)
       × ((r : Span) → Data-fits (h .end) (gs ++ list-fragments (pre ++ (l ∷ post))) r
-        → Kept b (written (applied (written b (h .end) (new-fragment (l .id) (length (l .fragments)) new ++ pad)) (ended (l .free) (nodes-to (last-fragment l)))) (nodes-to (last-fragment l)) (span-bytes (span (h .end) 1024))) r)
+        → Kept b (written (applied (written b (h .end) (new-fragment (l .id) (length (l .fragments)) new ++ pad)) (ended (l .free) (nodes-to (last-fragment (l .fragments))))) (nodes-to (last-fragment (l .fragments))) (span-bytes (span (h .end) 1024))) r)
 body-spill b h e gs pre l post new pad n m d k u i j w =
     let E = h .end in
     let h′ : Header = up-to h e in
     let fresh : Span = span E 1024 in
-    let c : List ℕ = written (applied (written b E (new-fragment (l .id) (length (l .fragments)) new ++ pad)) (ended (l .free) (nodes-to (last-fragment l)))) (nodes-to (last-fragment l)) (span-bytes fresh) in
-    let g = last-fragment l in
+    let c : List ℕ = written (applied (written b E (new-fragment (l .id) (length (l .fragments)) new ++ pad)) (ended (l .free) (nodes-to (last-fragment (l .fragments))))) (nodes-to (last-fragment (l .fragments))) (span-bytes fresh) in
+    let g = last-fragment (l .fragments) in
     let l′ : NodeList = with-fragment l fresh (n (E + 16)) (E + 16 + length new) in
     let refs : List Span = references (n (E + 16) ∷ []) in
     let F : List Span = header-span ∷ (gs ++ list-fragments (pre ++ (l ∷ post))) in

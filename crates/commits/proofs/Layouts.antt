@@ -22,9 +22,10 @@ use Rattle.model.specs.ListFragments.{nodes-from, nodes-to, new-fragment}
 use Rattle.model.specs.Section.{NodeList, Section, last-of, list-fragments, first-of}
 use Rattle.model.specs.Means.{Pairwise, Spread, within, across}
 use Rattle.model.specs.Layouts.{Tail, tail, Layout, tail-of, member, touch, find-tail, with-tail, ending-at, more-fragments, touching}
-use Rattle.model.specs.Saving.{Plan, with-node}
+use Rattle.model.specs.Saving.{Plan, with-node, fitting, spilling}
+use Rattle.model.specs.Laws.{last-fragment}
 use Rattle.meaning.proofs.Base.{all-front, Data-fits, references}
-use Rattle.commits.specs.Body.{Right, Body, with-one, with-fragment, last-fragment, up-to}
+use Rattle.commits.specs.Body.{Right, Body, with-one, with-fragment, up-to}
 use Rattle.commits.specs.Laid.{Laid}
 use Rattle.commits.proofs.Sizes.{length-new-fragment}
 use Rattle.commits.proofs.Store.{applied-row}
@@ -78,12 +79,10 @@ tails-with l′ (k ∷ pre) l post e (a, p) =
 
 -- what is planned --------------------------------------------------------------------------------------------------------
 
-abbrev fitting : Layout → ℕ → List ℕ → Tail → Plan
-fitting y id new t = record { layout = touching (tail id (t .fragment) (t .number) (t .free + length new) (t .count + 1)) y; writes = put (t .free) new ∷ [] }
-
 abbrev padding : ℕ → List ℕ
 padding k = replicate ((8 - k % 8) % 8) 0
 
+-- the plan for a node that goes into a new fragment, the k-th of its list
 abbrev spilling-at : Layout → ℕ → List ℕ → Tail → ℕ → Plan
 spilling-at y id new t k =
     let nf = new-fragment id k new in
@@ -92,9 +91,6 @@ spilling-at y id new t k =
       layout = touching (tail id (span (y .end) 1024) k (nodes-from (span (y .end) 1024) + length new) (t .count + 1)) (more-fragments (ending-at (behind piece) y));
       writes = piece ∷ (ended (t .free) (nodes-to (t .fragment)) ++ (put (nodes-to (t .fragment)) (span-bytes (span (y .end) 1024)) ∷ []));
     }
-
-abbrev spilling : Layout → ℕ → List ℕ → Tail → Plan
-spilling y id new t = spilling-at y id new t (t .number + 1)
 
 with-fits : (y : Layout) (id : ℕ) (new : List ℕ) (t : Tail) → find-tail (y .tails) id ≡ t → leb (t .free + length new) (nodes-to (t .fragment)) ≡ true → with-node y id new ≡ fitting y id new t
 with-fits y id new t e f = rw (e, f)
@@ -121,13 +117,13 @@ pub record Addable (s : Section) (y : Layout) (ls : List NodeList) (new : List �
   pub data-fits : (p : ℕ) → All (Data-fits (y .end) (s .log .fragments ++ list-fragments ls)) (references (n p ∷ []))
 
 pushed-fits : (c : List ℕ) (s : Section) (y : Layout) (pre : List NodeList) (l : NodeList) (post : List NodeList) (new : List ℕ) (n : ℕ → Node)
-    → Laid c s y (pre ++ (l ∷ post)) → Addable s y (pre ++ (l ∷ post)) new n → l .free + length new ≤ nodes-to (last-fragment l)
+    → Laid c s y (pre ++ (l ∷ post)) → Addable s y (pre ++ (l ∷ post)) new n → l .free + length new ≤ nodes-to (last-fragment (l .fragments))
     → Pushed c s y n pre l post (fitting y (l .id) new (tail-of l))
 unfolding applied
 pushed-fits c s y pre l post new n d a k =
     let l′ : NodeList = with-one l (n (l .free)) (l .free + length new) in
-    let t : tail-of l′ ≡ tail (l .id) (last-fragment l) (length (l .fragments) - 1) (l .free + length new) (length (l .nodes) + 1)
-        = ap (λ z. tail (l .id) (last-fragment l) (length (l .fragments) - 1) (l .free + length new) z) (length-append (l .nodes) (n (l .free) ∷ [])) in
+    let t : tail-of l′ ≡ tail (l .id) (last-fragment (l .fragments)) (length (l .fragments) - 1) (l .free + length new) (length (l .nodes) + 1)
+        = ap (λ z. tail (l .id) (last-fragment (l .fragments)) (length (l .fragments) - 1) (l .free + length new) z) (length-append (l .nodes) (n (l .free) ∷ [])) in
     let e : list-fragments (pre ++ (l′ ∷ post)) ≡ list-fragments (pre ++ (l ∷ post)) = flat-instead (λ (m : NodeList). m .fragments) pre l l′ post refl in
     let (u, v) = all-front (λ m. m .id ≤ y .highest) pre (l ∷ post) (d .known) in
     let bd = body-fits c (up-to (s .header) (y .end)) (s .log .fragments) pre l post new n (a .made) (d .body) k (a .data-fits (l .free)) in
@@ -198,8 +194,8 @@ pushed-spills c s y pre l post new n d a x1 x2 x3 =
     let len : length (l .nodes ++ (n (E + 16) ∷ [])) ≡ length (l .nodes) + 1 = length-append (l .nodes) (n (E + 16) ∷ []) in
     let t : tail-of l′ ≡ tail (l .id) fresh (length (l .fragments)) (E + 16 + length new) (length (l .nodes) + 1) = rw (last, num, len) in
     let q : applied c (spilling-at y (l .id) new (tail-of l) (length (l .fragments)) .writes)
-        ≡ written (applied (written c E (nf ++ pad)) (ended (l .free) (nodes-to (last-fragment l)))) (nodes-to (last-fragment l)) (span-bytes fresh)
-        = spilt c (put E (nf ++ pad)) (ended (l .free) (nodes-to (last-fragment l))) (put (nodes-to (last-fragment l)) (span-bytes fresh)) in
+        ≡ written (applied (written c E (nf ++ pad)) (ended (l .free) (nodes-to (last-fragment (l .fragments))))) (nodes-to (last-fragment (l .fragments))) (span-bytes fresh)
+        = spilt c (put E (nf ++ pad)) (ended (l .free) (nodes-to (last-fragment (l .fragments)))) (put (nodes-to (last-fragment (l .fragments))) (span-bytes fresh)) in
     let bd = body-spill c h e gs pre l post new pad n (a .made) (d .body) (omega arith) (omega arith) (omega arith) (omega arith) (a .data-fits (E + 16)) in
     record {
       list = l′;
@@ -223,7 +219,7 @@ pushed-spills c s y pre l post new n d a x1 x2 x3 =
 pub node-pushed : (c : List ℕ) (s : Section) (y : Layout) (pre : List NodeList) (l : NodeList) (post : List NodeList) (new : List ℕ) (n : ℕ → Node)
     → Laid c s y (pre ++ (l ∷ post)) → Addable s y (pre ++ (l ∷ post)) new n → y .end < 2 ^ 64 → y .highest < 2 ^ 32 → y .fragments < 2 ^ 32
     → find-tail (y .tails) (l .id) ≡ tail-of l → Pushed c s y n pre l post (with-node y (l .id) new)
-node-pushed c s y pre l post new n d a x1 x2 x3 e = elim (cases-bool (leb (l .free + length new) (nodes-to (last-fragment l)))) [
+node-pushed c s y pre l post new n d a x1 x2 x3 e = elim (cases-bool (leb (l .free + length new) (nodes-to (last-fragment (l .fragments))))) [
   | inl f ↦ subst (λ p. Pushed c s y n pre l post p) (sym (with-fits y (l .id) new (tail-of l) e f)) (pushed-fits c s y pre l post new n d a (grind (arith, tells)))
   | inr f ↦
       let (r0, r1) = all-front (Right c (up-to (s .header) (y .end))) pre (l ∷ post) (d .body .lists) in
