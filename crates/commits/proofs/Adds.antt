@@ -132,7 +132,7 @@ simple-step c s y ls id new n X d a x1 x2 x3 k w what =
 abbrev pub Stepped : List ℕ → Section → Layout → List NodeList → Add → Type 0
 Stepped c s y ls a = (ms : List NodeList) × Drafted (applied c (planned y a .writes)) s (planned y a .layout) ms × Grows c y ls (applied c (planned y a .writes)) (planned y a .layout) ms (saved-by y a)
 
--- PLAIN
+-- a node that refers to nothing
 pub plain-step : (c : List ℕ) (s : Section) (y : Layout) (ls : List NodeList) (list id : ℕ) (payload : List ℕ) → Drafted c s y ls → Fine y → Fair id → 4 + length payload ≤ 988
     → member list (map (λ t. t .id) (y .tails)) ≡ true
     → Stepped c s y ls (plain list id payload)
@@ -141,7 +141,7 @@ plain-step c s y ls list id payload d f i k m =
     simple-step c s y ls list (plain-node id payload) (λ p. plain-of p id payload) (content-of id 0 None payload []) d (record { made = plain-made id payload i k; data-fits = λ p. tt })
       (omega (arith, f .end)) (f .highest) (omega (arith, f .fragments)) m (λ p. refl) (λ p. plain-holds c p id payload)
 
--- DATA
+-- a node with data, which goes behind the draft's end before it
 pub data-step : (c : List ℕ) (s : Section) (y : Layout) (ls : List NodeList) (list id : ℕ) (payload content : List ℕ) → Drafted c s y ls → Fine y → Fair id → 16 + length payload ≤ 988
     → 1 ≤ length content → length content ≤ 65536 → member list (map (λ t. t .id) (y .tails)) ≡ true
     → Stepped c s y ls (with-data list id payload content)
@@ -236,7 +236,7 @@ with-list-laid c s y ls list first-id first d f i k u v =
       known = all-append (λ m. m .id ≤ id) ls (l ∷ []) (all-weaker (λ l. l .id ≤ y .highest) (λ l. l .id ≤ id) (λ l x. omega arith) ls (d .known)) (omega arith, tt);
     }
 
--- BRANCH
+-- a node that names a new list
 pub branch-step : (c : List ℕ) (s : Section) (y : Layout) (ls : List NodeList) (list id : ℕ) (payload : List ℕ) (first-id : ℕ) (first : List ℕ) → Drafted c s y ls → Fine y
     → Fair id → 16 + length payload ≤ 988 → Fair first-id → 4 + length first ≤ 988 → y .highest + 1 < 2 ^ 32 → member list (map (λ t. t .id) (y .tails)) ≡ true
     → Stepped c s y ls (branch list id payload first-id first)

@@ -13,8 +13,8 @@ use Rattle.std.proofs.shelf.Lists.{append-assoc, map-append}
 use Rattle.std.proofs.shelf.Tests.{cases-bool}
 use Rattle.std.proofs.shelf.Elements.{all-append, all-weaker}
 use Rattle.model.specs.declared.types.Span.{Span}
-use Rattle.model.specs.Bytes.{written, applied, Same}
-use Rattle.model.specs.References.{span, end-of, present, span-bytes}
+use Rattle.model.specs.Bytes.{written, Same}
+use Rattle.model.specs.References.{span, end-of, present}
 use Rattle.model.specs.Headers.{header-span, Header}
 use Rattle.model.specs.Nodes.{Node, referring}
 use Rattle.model.specs.ListFragments.{nodes-to, new-fragment}
@@ -27,7 +27,7 @@ use Rattle.commits.specs.Around.{Around}
 use Rattle.commits.specs.Body.{Right, Body, Tied, with-one, with-fragment, up-to}
 use Rattle.commits.proofs.Rows.{all-between, all-both, pair-between, pair-instead, all-flat, flat-all, flat-instead, last-push}
 use Rattle.commits.proofs.PartKept.{other-same, part-kept, ahead-other}
-use Rattle.commits.proofs.NodeAdded.{Made, fits-list, spill-list, ended}
+use Rattle.commits.proofs.NodeAdded.{Made, fits-list, spill-list, spilt}
 
 -- the body and the ties of an accepted file
 pub body-means : (b : List ℕ) (s : Section) → Means b s → Body b (s .header) (s .log .fragments) (s .lists) × Tied (s .header) (s .lists)
@@ -103,7 +103,7 @@ data-push P pre l l′ post n e a c =
 
 -- it fits ------------------------------------------------------------------------------------------------------------
 
--- BODY, a node that fits
+-- the lists with one node more
 pub body-fits : (b : List ℕ) (h : Header) (gs : List Span) (pre : List NodeList) (l : NodeList) (post : List NodeList) (new : List ℕ) (n : ℕ → Node)
     → Made new n → Body b h gs (pre ++ (l ∷ post)) → l .free + length new ≤ nodes-to (last-fragment (l .fragments))
     → All (Data-fits (h .end) (gs ++ list-fragments (pre ++ (l ∷ post)))) (references (n (l .free) ∷ []))
@@ -180,20 +180,18 @@ row-pairs gs pre l l′ post f e a p =
     subst (λ z. Pairwise Apart z) (sym (row-new gs pre l l′ post f e))
       (pair-between Apart X f B (subst (λ z. Pairwise Apart z) (row-old gs pre l post) p) u (all-weaker (λ x. Apart x f) (Apart f) (λ x y. apart-back x f y) B v))
 
--- BODY, a node that goes into a new fragment at the end
+-- the lists with one node more, in a new fragment at the end
 pub body-spill : (b : List ℕ) (h : Header) (e : ℕ) (gs : List Span) (pre : List NodeList) (l : NodeList) (post : List NodeList) (new pad : List ℕ) (n : ℕ → Node)
     → Made new n → Body b h gs (pre ++ (l ∷ post)) → h .end + 1024 + length pad ≡ e → h .end < 2 ^ 64 → l .id < 2 ^ 32 → length (l .fragments) < 2 ^ 32
     → All (Data-fits (h .end) (gs ++ list-fragments (pre ++ (l ∷ post)))) (references (n (h .end + 16) ∷ []))
-    → Body (written (applied (written b (h .end) (new-fragment (l .id) (length (l .fragments)) new ++ pad)) (ended (l .free) (nodes-to (last-fragment (l .fragments))))) (nodes-to (last-fragment (l .fragments))) (span-bytes (span (h .end) 1024)))
-      (up-to h e) gs (pre ++ (with-fragment l (span (h .end) 1024) (n (h .end + 16)) (h .end + 16 + length new) ∷ post))
-      × All (Kept b (written (applied (written b (h .end) (new-fragment (l .id) (length (l .fragments)) new ++ pad)) (ended (l .free) (nodes-to (last-fragment (l .fragments))))) (nodes-to (last-fragment (l .fragments))) (span-bytes (span (h .end) 1024)))) (header-span ∷ gs)
-      × ((r : Span) → Data-fits (h .end) (gs ++ list-fragments (pre ++ (l ∷ post))) r
-        → Kept b (written (applied (written b (h .end) (new-fragment (l .id) (length (l .fragments)) new ++ pad)) (ended (l .free) (nodes-to (last-fragment (l .fragments))))) (nodes-to (last-fragment (l .fragments))) (span-bytes (span (h .end) 1024))) r)
+    → let c = spilt b (h .end) (new-fragment (l .id) (length (l .fragments)) new ++ pad) (l .free) (nodes-to (last-fragment (l .fragments))) in
+      Body c (up-to h e) gs (pre ++ (with-fragment l (span (h .end) 1024) (n (h .end + 16)) (h .end + 16 + length new) ∷ post))
+      × All (Kept b c) (header-span ∷ gs) × ((r : Span) → Data-fits (h .end) (gs ++ list-fragments (pre ++ (l ∷ post))) r → Kept b c r)
 body-spill b h e gs pre l post new pad n m d k u i j w =
     let E = h .end in
     let h′ : Header = up-to h e in
     let fresh : Span = span E 1024 in
-    let c : List ℕ = written (applied (written b E (new-fragment (l .id) (length (l .fragments)) new ++ pad)) (ended (l .free) (nodes-to (last-fragment (l .fragments))))) (nodes-to (last-fragment (l .fragments))) (span-bytes fresh) in
+    let c : List ℕ = spilt b E (new-fragment (l .id) (length (l .fragments)) new ++ pad) (l .free) (nodes-to (last-fragment (l .fragments))) in
     let g = last-fragment (l .fragments) in
     let l′ : NodeList = with-fragment l fresh (n (E + 16)) (E + 16 + length new) in
     let refs : List Span = references (n (E + 16) ∷ []) in

@@ -1,4 +1,5 @@
 -- Numbers that are read from bytes fit into their widths: so do the list IDs and the counts of an accepted file.
+-- Assumes nothing.
 use Prim.Native.Nat.{ℕ, zero, suc, _+_, _^_, _<_}
 use mathlib.Core.Path.{sym, _∙_, subst}
 use mathlib.Core.Logic.{inl, inr}
@@ -78,7 +79,7 @@ unfolding greatest
 greatest-below f [] a = omega arith
 greatest-below f (x ∷ xs) (p, a) = let r = greatest-below f xs a in omega arith
 
--- BOUNDS: of the highest ID known, and of each list's count
+-- the highest ID known, and each list's count
 pub blank-highest : (b : List ℕ) (s : Section) → Bytes b → Means b s → blank s .highest < 2 ^ 32
 blank-highest b s a m =
     let sm = log-small b (s .header) (s .log) a (m .log) in

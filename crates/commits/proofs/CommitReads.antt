@@ -1,4 +1,5 @@
 -- After a commit the bytes open to a section with the count one higher, in which each list holds what it held and then the draft's nodes.
+-- Assumes nothing.
 use Prim.Native.Nat.{ℕ, _≤_}
 use mathlib.Core.Path.{_≡_, refl, sym, ap, _∙_}
 use mathlib.Core.Logic.{_≢_, inl, inr}
@@ -116,7 +117,7 @@ read-after b ceiling s adds guid a g m k cs =
       known = λ id h. taken-same ms T id (st .from) (st .to) ∙ gr .known id h;
     }
 
--- COMMIT READS
+-- as the model states it
 pub commit-reads : Commit-reads
 unfolding held
 commit-reads b ceiling s adds guid a _ g o k cs =

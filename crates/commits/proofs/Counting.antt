@@ -137,7 +137,7 @@ latest-some count id n (x ∷ ids) e = elim (cases-bool (member id ids)) [
 count-after : (ts : List (List Entry)) (t : List Entry) (id : ℕ) → count-in (ts ++ (t ∷ [])) id ≡ latest id (count-in ts id) t
 count-after ts t id = ap (λ z. latest id 0 z) (flat-push ts t) ∙ latest-row id 0 (flat ts) t
 
--- COUNTED: after the commit's entries each list has its count of nodes
+-- after the commit's entries each list has its count of nodes
 pub counted-after : (ts : List (List Entry)) (ids : List ℕ) (count : ℕ → ℕ) (ls : List NodeList) → All (Counts ts ids) ls → All (λ l. count (l .id) ≡ length (l .nodes)) ls
     → All (λ l. length (l .nodes) ≡ count-in (ts ++ (entries-for count ids ∷ [])) (l .id)) ls
 counted-after ts ids count ls a c = all-both (Counts ts ids) (λ l. count (l .id) ≡ length (l .nodes)) (λ l. length (l .nodes) ≡ count-in (ts ++ (entries-for count ids ∷ [])) (l .id)) ls one a c
@@ -155,7 +155,7 @@ latest-other id before e n =
     ] in
     latest-row id 0 before (e ∷ []) ∙ ap (λ z. cond z (e .number) (latest id 0 before)) q
 
--- RISING: entries of distinct lists, each above the list's last
+-- entries of distinct lists, each above the list's last
 pub rising-entries : (before : List Entry) (count : ℕ → ℕ) (ids : List ℕ) → Pairwise (λ x y. x ≢ y) ids → All (λ id. latest id 0 before < count id) ids → Rising before (entries-for count ids)
 rising-entries before count [] p a = tt
 rising-entries before count (x ∷ ids) (p, ps) (a, as′) =

@@ -1,4 +1,5 @@
 -- The commit of a draft: its transaction follows the finished log and counts its lists, and its writes make the whole.
+-- Assumes nothing.
 use Prim.Native.Nat.{ℕ, _+_, _^_, _<_, _≤_}
 use mathlib.Core.Path.{_≡_, refl, sym, ap, _∙_, subst}
 use mathlib.Core.Logic.{_≢_, inl, inr}
@@ -73,7 +74,7 @@ member-self (x ∷ ids) =
       | inr z ↦ rw z e
     ]) ids (member-self ids))
 
--- FOLLOWS: the draft's transaction
+-- the draft's transaction follows, and each list then has its count
 pub draft-follows : (c : List ℕ) (s : Section) (y : Layout) (ls : List NodeList) → Drafted c s y ls
     → Follows (s .log .transactions) (count-entries y) × All (λ l. length (l .nodes) ≡ count-in (s .log .transactions ++ (count-entries y ∷ [])) (l .id)) ls
 draft-follows c s y ls d =
@@ -142,7 +143,7 @@ pub record Committed (c c2 : List ℕ) (s : Section) (y : Layout) (ls : List Nod
   pub means : Means c2 (record { header = headed (s .header) (logged s y .end) guid; log = log; lists = ls })
   pub data-same : All (Data-same c c2) (data-spans ls)
 
--- COMMIT
+-- all of a commit's writes
 pub commit-done : (c : List ℕ) (ceiling : ℕ) (s : Section) (adds : List Add) (ls : List NodeList) (guid : List ℕ) → Drafted c s (layout s adds) ls → Fine (layout s adds) → length guid ≡ 16
     → Clean (commit-checks ceiling s adds guid) → Committed c (applied c (committing c s adds guid)) s (layout s adds) ls guid
 unfolding committing

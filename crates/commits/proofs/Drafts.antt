@@ -97,7 +97,7 @@ branch-highest : (y : Layout) (list id : ℕ) (payload : List ℕ) (first-id : �
 unfolding planned
 branch-highest y list id payload first-id first = with-node-highest _ list _
 
--- ADD
+-- one add that passes its checks
 pub add-step : (c : List ℕ) (ceiling : ℕ) (s : Section) (y : Layout) (ls : List NodeList) (a : Add) → Drafted c s y ls → Fine y → Clean (add-checks ceiling y a)
     → Stepped c s y ls a × Fine (planned y a .layout)
 add-step c ceiling s y ls (plain list id payload) d f k =
@@ -118,7 +118,7 @@ add-step c ceiling s y ls (branch list id payload first-id first) d f k =
     let w2 : bad-id first-id ≡ false = grind (arith, tells) in
     (branch-step c s y ls list id payload first-id first d f (fair id w1) (grind (arith, tells)) (fair first-id w2) (grind (arith, tells)) top (grind (arith, tells)), g)
 
--- ADDS: the lists are those of a draft, and have grown by what the adds save
+-- all adds: the lists are those of a draft, and have grown by what the adds save
 pub adds-drafted : (c : List ℕ) (ceiling : ℕ) (s : Section) (y : Layout) (ls : List NodeList) (adds : List Add) → Drafted c s y ls → Fine y → Done-adds ceiling y adds
     → (ms : List NodeList) × Drafted (applied c (add-writes y adds)) s (laid y adds) ms × Grows c y ls (applied c (add-writes y adds)) (laid y adds) ms (saved y adds) × Fine (laid y adds)
 unfolding laid applied saved

@@ -30,7 +30,7 @@ use Rattle.commits.specs.Laid.{Laid}
 use Rattle.commits.proofs.Sizes.{length-new-fragment}
 use Rattle.commits.proofs.Store.{applied-row}
 use Rattle.commits.proofs.Rows.{flat-instead, last-push}
-use Rattle.commits.proofs.NodeAdded.{Made, ended}
+use Rattle.commits.proofs.NodeAdded.{Made, ended, spilt}
 use Rattle.commits.proofs.Bodies.{Kept, body-fits, body-spill, row-old}
 
 -- the list of a tail -------------------------------------------------------------------------------------------------
@@ -148,9 +148,9 @@ pushed-fits c s y pre l post new n d a k =
     lengths : (l′ : NodeList) → length (pre ++ (l ∷ post)) ≡ length (pre ++ (l′ ∷ post))
     lengths l′ = length-append pre (l ∷ post) ∙ sym (length-append pre (l′ ∷ post))
 
-spilt : (b : List ℕ) (w : Write) (ws : List Write) (v : Write) → applied b (w ∷ (ws ++ (v ∷ []))) ≡ written (applied (written b (w .place) (w .new)) ws) (v .place) (v .new)
+applied-spill : (b : List ℕ) (w : Write) (ws : List Write) (v : Write) → applied b (w ∷ (ws ++ (v ∷ []))) ≡ written (applied (written b (w .place) (w .new)) ws) (v .place) (v .new)
 unfolding applied
-spilt b w ws v = applied-row (written b (w .place) (w .new)) ws (v ∷ [])
+applied-spill b w ws v = applied-row (written b (w .place) (w .new)) ws (v ∷ [])
 
 spread-some : (b : List ℕ) {fs : List Span} {ns : List Node} {q : ℕ} → Spread b fs ns q → 1 ≤ length fs
 spread-some b (within h) = omega arith
@@ -194,8 +194,8 @@ pushed-spills c s y pre l post new n d a x1 x2 x3 =
     let len : length (l .nodes ++ (n (E + 16) ∷ [])) ≡ length (l .nodes) + 1 = length-append (l .nodes) (n (E + 16) ∷ []) in
     let t : tail-of l′ ≡ tail (l .id) fresh (length (l .fragments)) (E + 16 + length new) (length (l .nodes) + 1) = rw (last, num, len) in
     let q : applied c (spilling-at y (l .id) new (tail-of l) (length (l .fragments)) .writes)
-        ≡ written (applied (written c E (nf ++ pad)) (ended (l .free) (nodes-to (last-fragment (l .fragments))))) (nodes-to (last-fragment (l .fragments))) (span-bytes fresh)
-        = spilt c (put E (nf ++ pad)) (ended (l .free) (nodes-to (last-fragment (l .fragments)))) (put (nodes-to (last-fragment (l .fragments))) (span-bytes fresh)) in
+        ≡ spilt c E (nf ++ pad) (l .free) (nodes-to (last-fragment (l .fragments)))
+        = applied-spill c (put E (nf ++ pad)) (ended (l .free) (nodes-to (last-fragment (l .fragments)))) (put (nodes-to (last-fragment (l .fragments))) (span-bytes fresh)) in
     let bd = body-spill c h e gs pre l post new pad n (a .made) (d .body) (omega arith) (omega arith) (omega arith) (omega arith) (a .data-fits (E + 16)) in
     record {
       list = l′;
@@ -215,7 +215,7 @@ pushed-spills c s y pre l post new n d a x1 x2 x3 =
       data-kept = λ r x. subst (λ z. Kept c z r) (sym q) (bd .2 r x);
     }
 
--- NODE: a plan for a node, done, gives its list one node more
+-- a plan for a node, done, gives its list one node more
 pub node-pushed : (c : List ℕ) (s : Section) (y : Layout) (pre : List NodeList) (l : NodeList) (post : List NodeList) (new : List ℕ) (n : ℕ → Node)
     → Laid c s y (pre ++ (l ∷ post)) → Addable s y (pre ++ (l ∷ post)) new n → y .end < 2 ^ 64 → y .highest < 2 ^ 32 → y .fragments < 2 ^ 32
     → find-tail (y .tails) (l .id) ≡ tail-of l → Pushed c s y n pre l post (with-node y (l .id) new)

@@ -125,7 +125,7 @@ split-log P (f ∷ gs) h k = k f gs
 inside-later : (end end′ : ℕ) (fs : List Span) → end ≤ end′ → All (Inside 12 end) fs → All (Inside 12 end′) fs
 inside-later end end′ fs h a = all-weaker (Inside 12 end) (Inside 12 end′) (λ f x. (x .0, omega (arith, x .1))) fs a
 
--- LOG, where the entries fit
+-- its entries fit
 pub log-fits : (b c : List ℕ) (h h′ : Header) (l : Log) (t : List Entry) → Logs b h l → Log-agree b c (l .fragments) (l .used) → h .end ≤ h′ .end → h′ .log ≡ h .log → h′ .count ≡ h .count + 1
     → Follows (l .transactions) t → l .used + length (closed t) ≤ entries-in (last-of (span 0 0) (l .fragments) .size)
     → entries-of c (last-of (span 0 0) (l .fragments)) (l .used) (length (closed t)) ≡ closed t
@@ -156,7 +156,7 @@ log-fits b c h h′ l t g a e r n w p q =
       ends = omega (arith, g .ends);
     }
 
--- LOG, where the entries go on in a new fragment
+-- its entries go on in a new fragment
 pub log-spills : (b c : List ℕ) (h h′ : Header) (l : Log) (t fit rest : List Entry) (x : Span) → Logs b h l → Log-agree b c (l .fragments) (l .used) → h .end ≤ h′ .end → h′ .log ≡ h .log → h′ .count ≡ h .count + 1
     → Follows (l .transactions) t → closed t ≡ fit ++ rest → l .used + length fit ≡ entries-in (last-of (span 0 0) (l .fragments) .size)
     → entries-of c (last-of (span 0 0) (l .fragments)) (l .used) (length fit) ≡ fit → span-at c (log-next (last-of (span 0 0) (l .fragments))) ≡ x

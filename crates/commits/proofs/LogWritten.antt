@@ -1,4 +1,5 @@
 -- The log's writes of a commit, all cases: its entries fit into the last log fragment, or go on in a new one at the draft's end.
+-- Assumes nothing.
 use Prim.Native.Nat.{ℕ, _+_, _-_, _*_, _%_, _<_, _≤_}
 use mathlib.Core.Path.{_≡_, refl, sym, ap, _∙_, subst}
 use mathlib.Core.Logic.{_⊎_, inl, inr}
@@ -162,7 +163,7 @@ log-done-fits c s y ls guid d f w sm p =
       data-apart = a .contents;
     }
 
--- BODY, with one log fragment more, behind what there was
+-- the lists beside one log fragment more, behind what there was
 body-log : (c : List ℕ) (h : Header) (e : ℕ) (gs : List Span) (ls : List NodeList) (x : Span) → Body c h gs ls → All (λ f. end-of f ≤ e) (header-span ∷ (gs ++ list-fragments ls))
     → All (λ r. end-of r ≤ e) (data-spans ls) → e ≤ x .start → end-of x ≤ h .end → Body c h (gs ++ (x ∷ [])) ls
 body-log c h e gs ls x d a k l m =
@@ -269,7 +270,7 @@ unfolding applied entry-bytes
 fit-write b [] p = sym (write-none b p)
 fit-write b (e ∷ es) p = refl
 
--- LOG: after its writes
+-- after the log's writes, whichever they are
 pub log-done : (c : List ℕ) (s : Section) (y : Layout) (ls : List NodeList) (guid : List ℕ) → Drafted c s y ls → Fine y → Follows (s .log .transactions) (count-entries y) → All Small (new-entries y)
     → length (new-entries y) ≤ 126 → logged s y .fragments ≤ 2048
     → Log-done c (applied c (logged s y .writes)) s y ls (headed (s .header) (logged s y .end) guid)

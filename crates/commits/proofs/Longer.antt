@@ -38,7 +38,7 @@ all-apart (f ∷ fs) = ((λ i x y. omega (arith, x .1)), all-apart fs)
 rights-kept : (b c : List ℕ) (h h′ : Header) (ms : List NodeList) → Around b c (h .end) (span 0 0) 16 → h .end ≤ h′ .end → All (Right b h) ms → All (Right c h′) ms
 rights-kept b c h h′ ms o k r = all-weaker (Right b h) (Right c h′) (λ m y. record { part = part-kept b c h h′ (span 0 0) 16 (m .id) (m .fragments) (m .nodes) (m .free) o k (ahead-other (span 0 0) 16 (m .fragments) (m .free) (all-apart (m .fragments))) (y .part); ends = y .ends }) ms r
 
--- BODY, with any bytes behind its end
+-- the lists, with any bytes behind the end
 pub body-longer : (b : List ℕ) (h : Header) (e : ℕ) (gs : List Span) (ls : List NodeList) (new : List ℕ) → Body b h gs ls → h .end + length new ≡ e → Body (written b (h .end) new) (up-to h e) gs ls
 body-longer b h e gs ls new d k =
     let o = around-past b b (h .end) (span 0 0) 16 (h .end) new (omega arith) (d .whole) (around-none b (h .end) (span 0 0) 16 (omega arith) (d .whole)) in
@@ -72,7 +72,7 @@ new-right b h id start new pad n m e r i s =
       ends = omega (arith, m .some);
     }
 
--- BODY, with a new list behind its end
+-- the lists and a new one behind the end
 pub body-list : (b : List ℕ) (h : Header) (e : ℕ) (gs : List Span) (ls : List NodeList) (id : ℕ) (new pad : List ℕ) (n : ℕ → Node)
     → Made new n → Body b h gs ls → h .end + 1024 + length pad ≡ e → 16 ≤ id → id < 2 ^ 32 → All (λ l. l .id ≢ id) ls → referring 1 (n (h .end + 16) ∷ []) ≡ []
     → Body (written b (h .end) (new-fragment id 0 new ++ pad)) (up-to h e) gs (ls ++ (new-list id (h .end) (n (h .end + 16)) (h .end + 16 + length new) ∷ []))

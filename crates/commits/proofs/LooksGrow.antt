@@ -1,4 +1,5 @@
 -- Over a commit each look to a count up to the old one answers as before.
+-- Assumes nothing.
 use Prim.Native.Nat.{ℕ, _+_, _-_, _<_, _≤_}
 use mathlib.Core.Path.{_≡_, refl, sym, ap, _∙_, subst}
 use mathlib.Core.Logic.{_⊎_, inl, inr}
@@ -219,7 +220,7 @@ read-alike b c s adds guid k list index r m sources low high =
       (sym q) (node-alike c b (s .header .count) (s .header .count + 1) k index (count-at (s .log) k list) (taken list (s .lists)) (taken list (r .lists)) (getD (nodes-of (s .lists) list) index no-node) (getD (nodes-of (r .lists) list) index no-node)
       low high (omega arith) either same)
 
--- LOOKS GROW
+-- as the model states it
 pub looks-grow : Looks-grow
 unfolding look
 looks-grow b ceiling s adds guid a _ g o k cs l low high =

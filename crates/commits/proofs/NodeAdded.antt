@@ -103,6 +103,10 @@ fits-list b h id fs ns q new n m e a p k =
 abbrev pub ended : ℕ → ℕ → List Write
 ended q stop = cond (leb (q + 4) stop) (put q terminator ∷ []) []
 
+-- the row after a node went into a new fragment, the bytes of which are `piece`: it is written first, then the terminator, then the next reference
+abbrev pub spilt : List ℕ → ℕ → List ℕ → ℕ → ℕ → List ℕ
+spilt b end piece q stop = written (applied (written b end piece) (ended q stop)) stop (span-bytes (span end 1024))
+
 -- the row before the last write: around the fragment, the new fragment stands, and the old one hands over
 record Ready (b c : List ℕ) (end : ℕ) (g : Span) (q : ℕ) (piece : List ℕ) : Type 0 where
   around : Around b c end g q
@@ -172,7 +176,7 @@ spill-from b c h h′ id fs ns q new pad n m e u i j a p r =
 
 pub spill-list : (b : List ℕ) (h h′ : Header) (id : ℕ) (fs : List Span) (ns : List Node) (q : ℕ) (new pad : List ℕ) (n : ℕ → Node)
     → Made new n → h .end ≤ length b → h .end + 1024 ≤ h′ .end → h .end < 2 ^ 64 → id < 2 ^ 32 → length fs < 2 ^ 32 → Pairwise Apart fs → List-part b h id fs ns q
-    → let c = written (applied (written b (h .end) (new-fragment id (length fs) new ++ pad)) (ended q (nodes-to (last-of (span 0 0) fs)))) (nodes-to (last-of (span 0 0) fs)) (span-bytes (span (h .end) 1024)) in
+    → let c = spilt b (h .end) (new-fragment id (length fs) new ++ pad) q (nodes-to (last-of (span 0 0) fs)) in
       Around b c (h .end) (last-of (span 0 0) fs) q × (h .end + 1024 + length pad ≤ length c)
       × List-part c h′ id (fs ++ (span (h .end) 1024 ∷ [])) (ns ++ (n (h .end + 16) ∷ [])) (h .end + 16 + length new)
 spill-list b h h′ id fs ns q new pad n m l e u i j a p =

@@ -85,7 +85,7 @@ pub inside-more : (end end′ : ℕ) (fs : List Span) → end ≤ end′ → All
 inside-more end end′ [] h a = tt
 inside-more end end′ (f ∷ fs) h ((x, y), a) = ((x, omega arith), inside-more end end′ fs h a)
 
--- PART: a list's part is kept, under a header with a later end
+-- a list's part, under a header with a later end
 pub part-kept : (b c : List ℕ) (h h′ : Header) (g : Span) (lo id : ℕ) (fs : List Span) (ns : List Node) (q : ℕ) → Around b c (h .end) g lo → h .end ≤ h′ .end → Ahead g lo fs q
     → List-part b h id fs ns q → List-part c h′ id fs ns q
 part-kept b c h h′ g lo id fs ns q o k a p =
@@ -136,7 +136,7 @@ inside-push : (end : ℕ) (fs : List Span) (f : Span) → All (Inside 36 end) fs
 inside-push end [] f a x = (x, tt)
 inside-push end (g ∷ fs) f (y, a) x = (y, inside-push end fs f a x)
 
--- PART, with one node more
+-- a list's part with one node more
 pub part-push : (b : List ℕ) (h : Header) (id : ℕ) (fs : List Span) (ns : List Node) (q : ℕ) (n : Node) → List-part b h id fs ns q → Good b (nodes-to (last-of (span 0 0) fs)) q n
     → List-part b h id fs (ns ++ (n ∷ [])) (q + n .size)
 part-push b h id fs ns q n p g = record { inside = p .inside; marks = p .marks; real = p .real; spread = spread-push b (span 0 0) n (p .spread) g }

@@ -47,7 +47,6 @@ entries-bytes [] = tt
 entries-bytes (e ∷ es) = all-append (λ x. x < 256) (digits 4 (e .source)) (digits 4 (e .number) ++ entry-bytes es) (digits-bytes 4 (e .source))
     (all-append (λ x. x < 256) (digits 4 (e .number)) (entry-bytes es) (digits-bytes 4 (e .number)) (entries-bytes es))
 
--- SENTINEL
 pub sentinel-small : (es : List Entry) → sentinel es .number < 2 ^ 32
 sentinel-small es = crc-small (entry-bytes es) (entries-bytes es)
 

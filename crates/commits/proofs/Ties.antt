@@ -74,7 +74,7 @@ carries-push pre l l′ post rest e k m h = elim (has-instead pre l l′ post m 
   | inr i ↦ (m, has-append-left (pre ++ (l′ ∷ post)) rest m i, refl, λ r x. x)
 ]
 
--- TIED, under a header with the same root and hashed chunk list
+-- under a header with the same root and hashed chunk list
 pub tied-header : (h h′ : Header) (ls : List NodeList) → named-first h ≡ named-first h′ → Tied h ls → Tied h′ ls
 tied-header h h′ ls e t = record {
   reached = all-weaker (λ l. Reached h ls (first-of l)) (λ l. Reached h′ ls (first-of l)) (λ l x. reached-more h h′ ls ls e (carries-same ls) (first-of l) x) ls (t .reached);
@@ -86,7 +86,7 @@ all-instead : {A : Type 0} (P : A → Type 0) (xs : List A) (y z : A) (ys : List
 all-instead P [] y z ys f (p, a) = (f p, a)
 all-instead P (x ∷ xs) y z ys f (p, a) = (p, all-instead P xs y z ys f a)
 
--- TIED, with a node that names no list
+-- with a node that names no list
 pub tied-push : (h : Header) (pre : List NodeList) (l l′ : NodeList) (post : List NodeList) → first-of l′ ≡ first-of l → named-by l′ ≡ named-by l
     → Tied h (pre ++ (l ∷ post)) → Tied h (pre ++ (l′ ∷ post))
 tied-push h pre l l′ post e f t =
@@ -102,7 +102,7 @@ tied-push h pre l l′ post e f t =
       once = ap length u ∙ t .once ∙ sym (length-map ls first-of) ∙ sym (ap length q) ∙ length-map ms first-of;
     }
 
--- TIED, with a node that names a new list
+-- with a node that names a new list
 pub tied-branch : (h : Header) (pre : List NodeList) (l l′ : NodeList) (post : List NodeList) (m : NodeList) (q : Named) → first-of l′ ≡ first-of l → named-by l′ ≡ named-by l ++ (q ∷ [])
     → q .1 ≡ first-of m → named-by m ≡ [] → Tied h (pre ++ (l ∷ post)) → Tied h ((pre ++ (l′ ∷ post)) ++ (m ∷ []))
 tied-branch h pre l l′ post m q e f g z t =

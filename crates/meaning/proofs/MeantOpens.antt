@@ -40,7 +40,7 @@ same-row-self (x ∷ xs) = and-from (eqb x x) (same-row xs xs) (grind (arith, te
 is-row : (xs ys : List ℕ) → xs ≡ ys → not (same-row xs ys) ≡ false
 is-row xs ys e = ap (λ w. not (same-row w ys)) e ∙ ap not (same-row-self ys)
 
--- HEADER: one that is right passes
+-- a header that is right passes
 pub headed-passes : (b : List ℕ) (h : Header) → Headed b h → Clean (header-checks b)
 headed-passes b h r =
     let e : h .end ≡ le 8 b 0xC4 = ap (λ (h : Header). h .end) (r .fields) in
@@ -78,7 +78,7 @@ same-fragments log S T P k a =
       let (l, j, w) = in-unflat (λ (l : NodeList). l .fragments) T f i in
       all-in P (list-fragments S) f v (in-flat (λ (l : NodeList). l .fragments) S l f (k l j) w)))
 
--- DATA: references that are right pass
+-- references to data that are right pass
 pub data-clean : (h : Header) (log : Log) (S T : List NodeList) → ((l : NodeList) → In l T → In l S)
     → All (λ r. end-of r ≤ h .end) (data-spans S) → All (λ r. All (Apart r) (header-span ∷ (log .fragments ++ list-fragments S))) (data-spans S)
     → Clean (all-data h log T)
@@ -114,7 +114,7 @@ opens-back b s o =
     ∙ ap (λ a. then a (last-part (s .header) (s .log))) (o .lists)
     ∙ unless-clean (all-data (s .header) (s .log) (s .lists)) _ (o .content)
 
--- COMPLETENESS -----------------------------------------------------------------------------------------------------
+-- the whole --------------------------------------------------------------------------------------------------------
 
 pub means-stock : (b : List ℕ) (s : Section) → Means b s → Stock (s .header) (s .log) (s .lists) (s .lists)
 means-stock b s m = record {

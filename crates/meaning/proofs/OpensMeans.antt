@@ -42,7 +42,7 @@ same-row-is (x ∷ xs) (y ∷ ys) e =
     let d = same-row-is xs ys c in
     cc
 
--- HEADER: one that passes is right
+-- a header that passes is right
 pub passes-headed : (b : List ℕ) → Clean (header-checks b) → Headed b (header-at b)
 passes-headed b (x, (y, (z, (w, (u, (v, t)))))) = record {
   fields = refl;
@@ -66,7 +66,7 @@ data-right end fs id (n ∷ ns) (x, (y, c)) =
     let (u, v) = data-right end fs id ns c in
     ((l, u), (overlaps-apart (n .reference) fs y, v))
 
--- DATA: references that pass are right
+-- references to data that pass are right
 pub all-data-right : (end : ℕ) (fs : List Span) (ls : List NodeList) → Clean (flat (map (λ l. data-checks end fs (l .id) (referring 1 (l .nodes))) ls))
     → All (λ r. end-of r ≤ end) (data-spans ls) × All (λ r. All (Apart r) (header-span ∷ fs)) (data-spans ls)
 all-data-right end fs [] c = (tt, tt)
@@ -96,7 +96,7 @@ opens b s e =
     let q : record { header = header-at b; log = log; lists = ls } ≡ s = cc in
     opens-with b s log ls c x z k q
 
--- SOUNDNESS --------------------------------------------------------------------------------------------------------
+-- the whole --------------------------------------------------------------------------------------------------------
 
 -- lists that name each of them, in their order
 named-from-order : (h : Header) (ls : List NodeList) → In-order h ls → All (λ q. Has (map first-of ls) (q .1)) (named-in h ls)

@@ -133,7 +133,7 @@ list-reads (suc n) b end count ls before id field f (g ∷ gs) fs ns ms q (acros
     list-more n b end count ls before id field f g gs fs ns ks js ms p q w h e split (i .0) (m .0) r a t c (omega arith)
       (list-reads n b end count ls before id (nodes-to f) g gs (fs ++ (f ∷ [])) (ns ++ ks) js q s (i .1) num r apart t c (omega arith) l (omega arith))
 
--- LIST: a list that stands is read, from the reference to its first fragment
+-- a list that stands is read, from the reference to its first fragment
 stands-with : (n : ℕ) (b : List ℕ) (h : Header) (log : Log) (ls : List NodeList) (before : List Span) (id field : ℕ) (fs : List Span) (ms : List Node) (q : ℕ)
     → Stands b h log (list-is id fs ms q) → Pairwise Apart (header-span ∷ (before ++ fs)) → taken id ls ≡ false → length fs ≤ n
     → list-from n b (h .end) (count-in (log .transactions) id) ls before id field (first-of (list-is id fs ms q)) [] [] ≡ done (list-is id fs ms q)

@@ -250,6 +250,6 @@ logs-with b h (f ∷ fs) (t ∷ ts) used l o =
     ap (λ x. log-from 2048 b h [] 0xA0 x (reading [] [])) (sym e)
     ∙ log-reads 2048 b h [] 0xA0 f fs used [] [] t ts (l .part .chain .1) (l .part .inside) (l .part .apart) (l .part .few) a (l .finished) q (l .part .places) (l .ends)
 
--- LOG: a log that is right is read
+-- a log that is right is read
 pub logs-read : (b : List ℕ) (h : Header) (l : Log) → Logs b h l → 1 ≤ h .count → log-from 2048 b h [] 0xA0 (h .log) (reading [] []) ≡ done l
 logs-read b h l g o = logs-with b h (l .fragments) (l .transactions) (l .used) g o

@@ -301,7 +301,7 @@ lists-next : (n : ℕ) (b : List ℕ) (h : Header) (log : Log) (S ls : List Node
 lists-next n b h log S ls q qs l e (T, r, k, o) =
     (T, lists-step n b h log q qs ls ∙ ap (λ a. then a (λ l. lists-from n b h log (qs ++ named-by l) (ls ++ (l ∷ [])))) e ∙ r, k, o)
 
--- QUEUE: from any point on
+-- the lists still to be read, from any point on
 pub lists-read : (n : ℕ) (b : List ℕ) (h : Header) (log : Log) (S ls rest : List NodeList) (qs : List Named) → Right b h log S → Stock h log S (ls ++ rest) → Order h ls qs
     → length rest ≤ n → Lists-read n b h log S qs ls
 lists-read n b h log S ls rest [] g k o l = lists-over n b h log S ls rest g k o

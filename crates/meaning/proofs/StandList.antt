@@ -172,7 +172,7 @@ list-new (suc n) b end count ls before id field f g e =
     let (c, d) = unless-done (list-checks b end count ls before id field f []) _ g (sym (list-step n b end count ls before id field f [] []) ∙ e) in
     c .1 .1 .1 .0
 
--- LIST: one that was read stands
+-- a list that was read stands
 pub record List-fits (b : List ℕ) (h : Header) (log : Log) (before : List Span) (f : Span) (n : ℕ) (g : NodeList) : Type 0 where
   pub stands : Stands b h log g
   pub first : first-of g ≡ f

@@ -216,7 +216,7 @@ log-stands (suc n) b h fs field f r g fair p e =
       (entries-stand (entries-in (f .size)) b (h .count) f 0 (r .transactions) (r .pending) a x fair) y
       (λ r′ fair′ k. log-stands n b h (fs ++ (f ∷ [])) (log-next f) (span-at b (log-next f)) r′ g fair′ p′ k)
 
--- LOG: one that was read is right
+-- a log that was read is right
 pub logs-stand : (b : List ℕ) (h : Header) (g : Log) → log-from 2048 b h [] 0xA0 (h .log) (reading [] []) ≡ done g → Logs b h g
 logs-stand b h g e =
     let fair : Fair [] [] = record { lists = tt; pending-lists = tt; rising = tt } in

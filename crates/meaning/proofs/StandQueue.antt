@@ -104,7 +104,7 @@ lists-longer n b h log q qs ls g l e s =
             by-node {l = l} has here (has-from-in (spans (named-by l)) (p .1) (in-map (λ (q : Named). q .1) (named-by l) p i))))));
     }
 
--- QUEUE: lists that were read are right
+-- lists that were read are right
 pub lists-stand : (n : ℕ) (b : List ℕ) (h : Header) (log : Log) (qs : List Named) (ls g : List NodeList) → So-far b h log ls qs
     → lists-from n b h log qs ls ≡ done g → Lists-stand n b h log qs ls g
 lists-stand n b h log [] ls g s e = lists-over n b h log ls g s e
