@@ -33,7 +33,7 @@ use Rattle.commits.specs.Laid.{Laid}
 use Rattle.commits.proofs.Sizes.{length-new-fragment}
 use Rattle.commits.proofs.NodeBack.{Fair, plain-of, referring-of}
 use Rattle.commits.proofs.NodeAdded.{Made, plain-made, referring-made}
-use Rattle.commits.proofs.Bodies.{Kept, referring-row, all-by-end, past-apart}
+use Rattle.commits.proofs.Bodies.{referring-row, all-by-end, past-apart}
 use Rattle.commits.proofs.Longer.{body-longer, body-list, new-list}
 use Rattle.commits.proofs.Ties.{tied-header, tied-push, tied-branch}
 use Rattle.commits.proofs.Store.{same-written, stored-written, stored-front, piece-stored}
@@ -42,6 +42,7 @@ use Rattle.commits.proofs.Layouts.{found, Addable, node-pushed, with-node-high
 use Rattle.commits.proofs.Counting.{Counting, counting-push, counting-list, touch-again, touch-other, touch-same}
 use Rattle.commits.proofs.Growth.{Grows, longer-held, pushed-holds, list-holds, either-sum}
 use Rattle.commits.proofs.SameRow.{logs-same, headed-same}
+use Rattle.commits.proofs.Around.{Kept}
 
 -- the lists of a draft, and that they are the reached ones
 pub record Drafted (c : List ℕ) (s : Section) (y : Layout) (ls : List NodeList) : Type 0 where

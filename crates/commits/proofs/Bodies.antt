@@ -13,7 +13,7 @@ use Rattle.std.proofs.shelf.Lists.{append-assoc, map-append}
 use Rattle.std.proofs.shelf.Tests.{cases-bool}
 use Rattle.std.proofs.shelf.Elements.{all-append, all-weaker}
 use Rattle.model.specs.declared.types.Span.{Span}
-use Rattle.model.specs.Bytes.{written, Same}
+use Rattle.model.specs.Bytes.{written}
 use Rattle.model.specs.References.{span, end-of, present}
 use Rattle.model.specs.Headers.{header-span, Header}
 use Rattle.model.specs.Nodes.{Node, referring}
@@ -26,8 +26,9 @@ use Rattle.meaning.proofs.Members.{flat-append}
 use Rattle.commits.specs.Around.{Around}
 use Rattle.commits.specs.Body.{Right, Body, Tied, with-one, with-fragment, up-to}
 use Rattle.commits.proofs.Rows.{all-between, all-both, pair-between, pair-instead, all-flat, flat-all, flat-instead, last-push}
-use Rattle.commits.proofs.PartKept.{other-same, part-kept, ahead-other}
+use Rattle.commits.proofs.PartKept.{part-kept, ahead-other}
 use Rattle.commits.proofs.NodeAdded.{Made, fits-list, spill-list, spilt}
+use Rattle.commits.proofs.Around.{Kept, other-same}
 
 -- the body and the ties of an accepted file
 pub body-means : (b : List ℕ) (s : Section) → Means b s → Body b (s .header) (s .log .fragments) (s .lists) × Tied (s .header) (s .lists)
@@ -72,12 +73,8 @@ own b h gs pre l post r (p0, p) =
     (p4, all-flat (Apart g) (λ (m : NodeList). m .fragments) pre k1, all-flat (Apart g) (λ (m : NodeList). m .fragments) post k2,
     (from header-span (all-front (Apart header-span) gs L p0 .1), all-weaker (λ x. All (Apart x) L) (Apart g) from gs x1), from)
 
--- the bytes of a fragment are the same
-abbrev pub Kept : List ℕ → List ℕ → Span → Type 0
-Kept b c f = Same b c (f .start) (end-of f)
-
 -- the other lists are kept
-others : (b c : List ℕ) (h h′ : Header) (g : Span) (lo : ℕ) (ms : List NodeList) → Around b c (h .end) g lo → h .end ≤ h′ .end
+others : (b c : List ℕ) (h h′ : Header) (g : Span) (lo : ℕ) (ms : List NodeList) → Around b c (h .end) g lo 16 8 → h .end ≤ h′ .end
     → All (λ m. All (Apart g) (m .fragments)) ms → All (Right b h) ms → All (Right c h′) ms
 others b c h h′ g lo ms o k a r = all-both (λ m. All (Apart g) (m .fragments)) (Right b h) (Right c h′) ms
     (λ m x y. record { part = part-kept b c h h′ g lo (m .id) (m .fragments) (m .nodes) (m .free) o k (ahead-other g lo (m .fragments) (m .free) x) (y .part); ends = y .ends }) a r
@@ -132,8 +129,8 @@ body-fits b h gs pre l post new n m d k w =
       data-apart = subst (λ z. All (λ r. All (Apart r) (header-span ∷ (gs ++ z))) (data-spans (pre ++ (l′ ∷ post)))) (sym e)
           (data-push (λ r. All (Apart r) (header-span ∷ (gs ++ list-fragments (pre ++ (l ∷ post))))) pre l l′ post (n (l .free)) refl (d .data-apart)
           (all-weaker (Data-fits (h .end) (gs ++ list-fragments (pre ++ (l ∷ post)))) (λ r. All (Apart r) (header-span ∷ (gs ++ list-fragments (pre ++ (l ∷ post))))) (λ r x. x .1) refs w));
-    }, all-both (Apart g) (λ f. end-of f ≤ h .end) (Kept b c) (header-span ∷ gs) (λ f u v. other-same b c (h .end) g (l .free) o f u v) a2 (d .least, d .log-inside),
-    λ r x. other-same b c (h .end) g (l .free) o r (away r (all-front (Apart r) gs (list-fragments (pre ++ (l ∷ post))) (x .1 .1) .1)) (x .0))
+    }, all-both (Apart g) (λ f. end-of f ≤ h .end) (Kept b c) (header-span ∷ gs) (λ f u v. other-same b c (h .end) g (l .free) 16 8 o f u v) a2 (d .least, d .log-inside),
+    λ r x. other-same b c (h .end) g (l .free) 16 8 o r (away r (all-front (Apart r) gs (list-fragments (pre ++ (l ∷ post))) (x .1 .1) .1)) (x .0))
 
 -- it goes into a new fragment --------------------------------------------------------------------------------------------
 
@@ -214,5 +211,5 @@ body-spill b h e gs pre l post new pad n m d k u i j w =
       apart = row-pairs gs pre l l′ post fresh refl (all-weaker (λ f. end-of f ≤ E) (λ x. Apart x fresh) (λ x y. past-apart E fresh x (omega arith) y) F by-end) (d .apart);
       data-inside = all-weaker (λ r. (end-of r ≤ E) × All (Apart r) F) (λ r. end-of r ≤ e) (λ r x. omega (arith, x .0)) (data-spans (pre ++ (l′ ∷ post))) grown;
       data-apart = all-weaker (λ r. (end-of r ≤ E) × All (Apart r) F) (λ r. All (Apart r) (header-span ∷ (gs ++ list-fragments (pre ++ (l′ ∷ post))))) (λ r x. row-all (Apart r) gs pre l l′ post fresh refl (past-apart E fresh r (omega arith) (x .0)) (x .1)) (data-spans (pre ++ (l′ ∷ post))) grown;
-    }, all-both (Apart g) (λ f. end-of f ≤ E) (Kept b c) (header-span ∷ gs) (λ f u v. other-same b c E g (l .free) o f u v) a2 (d .least, d .log-inside),
-    λ r x. other-same b c E g (l .free) o r (away r (all-front (Apart r) gs (list-fragments (pre ++ (l ∷ post))) (x .1 .1) .1)) (x .0))
+    }, all-both (Apart g) (λ f. end-of f ≤ E) (Kept b c) (header-span ∷ gs) (λ f u v. other-same b c E g (l .free) 16 8 o f u v) a2 (d .least, d .log-inside),
+    λ r x. other-same b c E g (l .free) 16 8 o r (away r (all-front (Apart r) gs (list-fragments (pre ++ (l ∷ post))) (x .1 .1) .1)) (x .0))

@@ -25,7 +25,7 @@ use Rattle.model.specs.Contents.{content-of, holds}
 use Rattle.meaning.proofs.Frames.{piece-in}
 use Rattle.meaning.proofs.Base.{all-front, references}
 use Rattle.commits.proofs.NodeBack.{plain-of, referring-of}
-use Rattle.commits.proofs.Bodies.{Kept}
+use Rattle.commits.proofs.Around.{Kept}
 
 -- in another row ---------------------------------------------------------------------------------------------------------
 

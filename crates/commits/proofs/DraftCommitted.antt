@@ -32,15 +32,15 @@ use Rattle.commits.proofs.Rows.{all-both}
 use Rattle.commits.proofs.FragmentBack.{Small}
 use Rattle.commits.proofs.Sums.{closed-small}
 use Rattle.commits.proofs.HeadBack.{headed, head-rest}
-use Rattle.commits.proofs.Bodies.{Kept}
 use Rattle.commits.proofs.Ties.{tied-header}
 use Rattle.commits.proofs.LogAdded.{Follows}
 use Rattle.commits.proofs.Counting.{Counts, counted-after, rising-entries, counts-lists}
 use Rattle.commits.proofs.Contents.{Data-same}
 use Rattle.commits.proofs.Adds.{Drafted, Fine}
-use Rattle.commits.proofs.LogWritten.{beside-apart, log-done}
+use Rattle.commits.proofs.LogWritten.{log-done}
 use Rattle.commits.proofs.SameRow.{headed-same, heading-same}
 use Rattle.commits.proofs.HeaderWritten.{head-kept, commit-head}
+use Rattle.commits.proofs.Around.{other-same, Kept}
 
 -- each list's tail is found by its ID
 tails-count : (ls : List NodeList) → Pairwise (λ l m. l .id ≢ m .id) ls → All (λ l. find-tail (map tail-of ls) (l .id) .count ≡ length (l .nodes)) ls
@@ -160,12 +160,12 @@ commit-done c ceiling s adds ls guid d f g k =
     let few : length (new-entries y) ≤ 126 = omega (arith, length-append (count-entries y) (sentinel (count-entries y) ∷ []), length-map {A = ℕ} {B = Entry} (y .touched) (λ id. entry id (find-tail (y .tails) id .count))) in
     let L = log-done c s y ls guid d f w (draft-small c s y ls d f) few (n .fragments) in
     let c1 : List ℕ = applied c (logged s y .writes) in
-    let B = L .beside in
+    let B = L .around in
     let wh = d .laid .body .whole in
     let low = d .laid .body .least in
     let la = d .later in
     let reach = B .after in
-    let kh : Kept c c1 header-span = beside-apart c c1 (y .end) (L .last) (L .place) B header-span (L .apart .0) low in
+    let kh : Kept c c1 header-span = other-same c c1 (y .end) (L .last) (L .place) 0 0 B header-span (L .apart .0) low in
     let a1 : Headed c1 (s .header) = headed-same c c1 (s .header) kh (omega arith) (d .head) in
     let hw : header-write c (s .header) end guid ≡ header-write c1 (s .header) end guid = heading-same c c1 (s .header) end guid (d .head .whole) (a1 .whole) kh in
     let c2 : List ℕ = applied c1 (header-write c1 (s .header) end guid ∷ []) in
@@ -177,5 +177,5 @@ commit-done c ceiling s adds ls guid d f g k =
         = all-both (Apart (L .last)) (λ r. All (Apart r) (header-span ∷ (gs ++ lf))) (λ r. Apart (L .last) r × Apart header-span r) (data-spans ls) (λ r u v. (u, λ i x z. v .0 i z x)) (L .data-apart) (d .laid .body .data-apart) in
     let D : All (Data-same c c2) (data-spans ls)
         = all-both (λ r. end-of r ≤ y .end) (λ r. Apart (L .last) r × Apart header-span r) (Data-same c c2) (data-spans ls)
-          (λ r u v. (omega arith, omega arith, λ i x z. beside-apart c c1 (y .end) (L .last) (L .place) B r (v .0) u i x z ∙ head-kept c1 c2 r r2 (v .1) i x z)) (d .laid .body .data-inside) far in
+          (λ r u v. (omega arith, omega arith, λ i x z. other-same c c1 (y .end) (L .last) (L .place) 0 0 B r (v .0) u i x z ∙ head-kept c1 c2 r r2 (v .1) i x z)) (d .laid .body .data-inside) far in
     subst (λ (z : List ℕ). Committed c z s y ls guid) (sym q) (record { log = L .log; transactions = L .transactions; means = M; data-same = D })

@@ -20,8 +20,8 @@ use Rattle.meaning.proofs.Base.{all-front}
 use Rattle.commits.specs.Body.{Right, Body, Tied}
 use Rattle.commits.proofs.HeadBack.{headed, header-back, head-rest}
 use Rattle.commits.proofs.Rows.{all-both}
-use Rattle.commits.proofs.Bodies.{Kept}
 use Rattle.commits.proofs.SameRow.{body-same, logs-same}
+use Rattle.commits.proofs.Around.{Kept}
 
 -- the header's write leaves what is apart from the header
 pub head-kept : (b c : List ℕ) (f : Span) → ((hi : ℕ) → Same b c 512 hi) → Apart header-span f → Kept b c f

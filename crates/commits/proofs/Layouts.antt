@@ -31,7 +31,8 @@ use Rattle.commits.proofs.Sizes.{length-new-fragment}
 use Rattle.commits.proofs.Store.{applied-row}
 use Rattle.commits.proofs.Rows.{flat-instead, last-push}
 use Rattle.commits.proofs.NodeAdded.{Made, ended, spilt}
-use Rattle.commits.proofs.Bodies.{Kept, body-fits, body-spill, row-old}
+use Rattle.commits.proofs.Bodies.{body-fits, body-spill, row-old}
+use Rattle.commits.proofs.Around.{Kept}
 
 -- the list of a tail -------------------------------------------------------------------------------------------------
 

@@ -2,14 +2,14 @@
 -- Assumes nothing.
 use Prim.Native.Nat.{ℕ, _+_, _-_, _*_, _%_, _<_, _≤_}
 use mathlib.Core.Path.{_≡_, refl, sym, ap, _∙_, subst}
-use mathlib.Core.Logic.{_⊎_, inl, inr}
+use mathlib.Core.Logic.{inl, inr}
 use mathlib.Core.List.{List, [], _∷_, _++_}
 use native.Mathlib.Omega.{arith}
 use lib.Dec.{ltb}
-use lib.ListN.{length, getD, take, drop, replicate}
+use lib.ListN.{length, take, drop, replicate}
 use Rattle.std.specs.shelf.Lists.{All}
 use Rattle.std.proofs.shelf.Lists.{append-assoc, length-append, length-take, length-drop, take-all, drop-all, take-append-drop}
-use Rattle.std.proofs.shelf.Tests.{cases-bool, cases-lt}
+use Rattle.std.proofs.shelf.Tests.{cases-bool}
 use Rattle.std.proofs.shelf.Ways.{tells}
 use Rattle.std.proofs.shelf.Elements.{all-append, all-weaker}
 use Rattle.model.specs.declared.types.Span.{Span}
@@ -26,65 +26,25 @@ use Rattle.model.specs.Committing.{count-entries, new-entries, if-any, logged}
 use Rattle.meaning.proofs.Base.{all-front, pairs-split}
 use Rattle.commits.specs.Stored.{Stored}
 use Rattle.commits.specs.Body.{Body, up-to}
+use Rattle.commits.specs.Around.{Around}
 use Rattle.commits.proofs.Sizes.{length-span-bytes, length-entry-bytes, length-new-log-fragment}
-use Rattle.commits.proofs.Store.{length-written, written-below, written-above, same-written, stored-written, stored-same, stored-front, span-stored}
+use Rattle.commits.proofs.Store.{length-written, same-written, stored-written, stored-same, stored-front, span-stored}
 use Rattle.commits.proofs.FragmentBack.{Small, entries-back, log-fragment-back}
 use Rattle.commits.proofs.HeadBack.{headed}
 use Rattle.commits.proofs.Rows.{all-both, all-between, pair-between, last-all}
-use Rattle.commits.proofs.Bodies.{Kept, all-by-end, past-apart}
+use Rattle.commits.proofs.Bodies.{all-by-end, past-apart}
 use Rattle.commits.proofs.LogAdded.{Log-agree, Follows, log-fits, log-spills, log-some, split-log, next-inside}
 use Rattle.commits.proofs.Adds.{Drafted, Fine}
 use Rattle.commits.proofs.SameRow.{body-same}
-
--- which bytes stay ------------------------------------------------------------------------------------------------------
-
--- c is b up to `end`, but for the bytes of the fragment g from lo on
-pub record Beside (b c : List ℕ) (end : ℕ) (g : Span) (lo : ℕ) : Type 0 where
-  pub kept : (i : ℕ) → i < end → (i < lo) ⊎ (end-of g ≤ i) → getD b i 0 ≡ getD c i 0
-  pub from : g .start ≤ lo
-  pub after : end ≤ length c
-
-beside-none : (b : List ℕ) (end : ℕ) (g : Span) (lo : ℕ) → g .start ≤ lo → end ≤ length b → Beside b b end g lo
-beside-none b end g lo h k = record { kept = λ i x y. refl; from = h; after = k }
-
--- a write in that fragment
-beside-in : (b c : List ℕ) (end : ℕ) (g : Span) (lo p : ℕ) (new : List ℕ) → lo ≤ p → p + length new ≤ end-of g → end-of g ≤ end → Beside b c end g lo → Beside b (written c p new) end g lo
-beside-in b c end g lo p new h k e o =
-    let a = o .after in
-    record {
-      kept = λ i x y. o .kept i x y ∙ sym (elim y [
-        | inl z ↦ written-below c p new i (omega arith) (omega arith)
-        | inr z ↦ written-above c p new i (omega arith) (omega arith)
-      ]);
-      from = o .from;
-      after = omega (arith, length-written c p new (omega arith));
-    }
-
--- a write behind the end
-beside-past : (b c : List ℕ) (end : ℕ) (g : Span) (lo p : ℕ) (new : List ℕ) → end ≤ p → p ≤ length c → Beside b c end g lo → Beside b (written c p new) end g lo
-beside-past b c end g lo p new h k o = record {
-  kept = λ i x y. o .kept i x y ∙ sym (written-below c p new i k (omega arith));
-  from = o .from;
-  after = omega (arith, o .after, length-written c p new k);
-}
-
--- a range that is apart from the fragment
-pub beside-apart : (b c : List ℕ) (end : ℕ) (g : Span) (lo : ℕ) → Beside b c end g lo → (f : Span) → Apart g f → end-of f ≤ end → Kept b c f
-beside-apart b c end g lo o f a h i l k = elim (cases-lt i lo) [
-  | inl x ↦ o .kept i (omega arith) (inl x)
-  | inr x ↦ elim (cases-lt i (end-of g)) [
-    | inl y ↦ absurd (a i (omega (arith, o .from), y) (l, k))
-    | inr y ↦ o .kept i (omega arith) (inr y)
-  ]
-]
+use Rattle.commits.proofs.Around.{Kept, around-none, around-in, around-past, other-same}
 
 -- the finished log, of whose last fragment only what is behind the used entries was written
-beside-log : (b c : List ℕ) (end : ℕ) (d : Span) (fs : List Span) (used lo : ℕ) → Beside b c end (last-of d fs) lo → Pairwise Apart fs → All (λ f. end-of f ≤ end) fs
+around-log : (b c : List ℕ) (end : ℕ) (d : Span) (fs : List Span) (used lo : ℕ) → Around b c end (last-of d fs) lo 0 0 → Pairwise Apart fs → All (λ f. end-of f ≤ end) fs
     → last-of d fs .start + 8 * used ≤ lo → lo ≤ end → Log-agree b c fs used
-beside-log b c end d [] used lo o a h k l = tt
-beside-log b c end d (f ∷ []) used lo o a h k l = λ i x y. o .kept i (omega arith) (inl (omega arith))
-beside-log b c end d (f ∷ (g ∷ gs)) used lo o (a, as′) (h, hs) k l =
-    (beside-apart b c end (last-of f (g ∷ gs)) lo o f (λ i x y. last-all (Apart f) f g gs a i y x) h, beside-log b c end f (g ∷ gs) used lo o as′ hs k l)
+around-log b c end d [] used lo o a h k l = tt
+around-log b c end d (f ∷ []) used lo o a h k l = λ i x y. o .kept i (omega arith) (inl (omega arith))
+around-log b c end d (f ∷ (g ∷ gs)) used lo o (a, as′) (h, hs) k l =
+    (other-same b c end (last-of f (g ∷ gs)) lo 0 0 o f (λ i x y. last-all (Apart f) f g gs a i y x) h, around-log b c end f (g ∷ gs) used lo o as′ hs k l)
 
 -- the log afterwards -----------------------------------------------------------------------------------------------------
 
@@ -97,7 +57,7 @@ pub record Log-done (c c1 : List ℕ) (s : Section) (y : Layout) (ls : List Node
   pub few : length (log .fragments ++ list-fragments ls) ≤ 2048
   pub last : Span
   pub place : ℕ
-  pub beside : Beside c c1 (y .end) last place
+  pub around : Around c c1 (y .end) last place 0 0
   pub apart : All (Apart last) (header-span ∷ list-fragments ls)
   pub data-apart : All (Apart last) (data-spans ls)
 
@@ -144,12 +104,12 @@ log-done-fits c s y ls guid d f w sm p =
     let c1 : List ℕ = written c at new in
     let by-end = all-by-end c (up-to (s .header) E) gs ls (d .laid .body) in
     let (e0, e1) = all-front (λ x. end-of x ≤ E) gs lf (by-end .1) in
-    let o : Beside c c1 E g at = beside-in c c E g at at new (omega arith) (omega arith) (omega arith) (beside-none c E g at (omega arith) wh) in
+    let o : Around c c1 E g at 0 0 = around-in c c E g at 0 0 at new (omega arith) (omega arith) (omega arith) (around-none c E g at 0 0 (omega arith) wh) in
     let (p2, p3, p4) = pairs-split Apart gs lf (d .laid .body .apart .1) in
-    let ag : Log-agree c c1 gs (s .log .used) = beside-log c c1 E (span 0 0) gs (s .log .used) at o p2 e0 (omega arith) (omega arith) in
+    let ag : Log-agree c c1 gs (s .log .used) = around-log c c1 E (span 0 0) gs (s .log .used) at o p2 e0 (omega arith) (omega arith) in
     let st : Stored c1 at new = stored-written c at new (omega arith) in
     let en : entries-of c1 g (s .log .used) (length (closed t)) ≡ closed t = entries-back c1 g (s .log .used) (closed t) sm st in
-    let kl : All (Kept c c1) lf = all-both (Apart g) (λ x. end-of x ≤ E) (Kept c c1) lf (λ x u v. beside-apart c c1 E g at o x u v) (a .others .1) e1 in
+    let kl : All (Kept c c1) lf = all-both (Apart g) (λ x. end-of x ≤ E) (Kept c c1) lf (λ x u v. other-same c c1 E g at 0 0 o x u v) (a .others .1) e1 in
     record {
       log = record { fragments = gs; transactions = s .log .transactions ++ (t ∷ []); used = s .log .used + length (closed t) };
       transactions = refl;
@@ -158,7 +118,7 @@ log-done-fits c s y ls guid d f w sm p =
       few = omega (arith, d .laid .fragments, f .fragments);
       last = g;
       place = at;
-      beside = o;
+      around = o;
       apart = a .others;
       data-apart = a .contents;
     }
@@ -224,11 +184,11 @@ log-done-spills c s y ls guid fit rest d f w q sf sr p r1 r2 few =
     let la3 = length-written cb at new (omega arith) in
     let by-end : All (λ x. end-of x ≤ E) (header-span ∷ (gs ++ lf)) = all-by-end c (up-to (s .header) E) gs ls (d .laid .body) in
     let (e0, e1) = all-front (λ x. end-of x ≤ E) gs lf (by-end .1) in
-    let oa : Beside c ca E g at = beside-past c c E g at E P (omega arith) wh (beside-none c E g at (omega arith) wh) in
-    let ob : Beside c cb E g at = beside-in c ca E g at next ref (omega arith) (omega arith) (omega arith) oa in
-    let o : Beside c c1 E g at = beside-in c cb E g at at new (omega arith) (omega arith) (omega arith) ob in
+    let oa : Around c ca E g at 0 0 = around-past c c E g at 0 0 E P (omega arith) wh (around-none c E g at 0 0 (omega arith) wh) in
+    let ob : Around c cb E g at 0 0 = around-in c ca E g at 0 0 next ref (omega arith) (omega arith) (omega arith) oa in
+    let o : Around c c1 E g at 0 0 = around-in c cb E g at 0 0 at new (omega arith) (omega arith) (omega arith) ob in
     let (p2, p3, p4) = pairs-split Apart gs lf (d .laid .body .apart .1) in
-    let ag : Log-agree c c1 gs (s .log .used) = beside-log c c1 E (span 0 0) gs (s .log .used) at o p2 e0 (omega arith) (omega arith) in
+    let ag : Log-agree c c1 gs (s .log .used) = around-log c c1 E (span 0 0) gs (s .log .used) at o p2 e0 (omega arith) (omega arith) in
     let en : entries-of c1 g (s .log .used) (length fit) ≡ fit = entries-back c1 g (s .log .used) fit sf (stored-written cb at new (omega arith)) in
     let sb : Stored cb E nf = stored-same ca cb E nf (same-written ca next ref E (E + length nf) (omega arith) (inr (omega arith))) (omega arith) (stored-front ca E nf pad (stored-written c E P wh)) in
     let sc : Stored c1 E nf = stored-same cb c1 E nf (same-written cb at new E (E + length nf) (omega arith) (inr (omega arith))) (omega arith) sb in
@@ -236,7 +196,7 @@ log-done-spills c s y ls guid fit rest d f w q sf sr p r1 r2 few =
     let en2 : span-at c1 next ≡ X = span-stored c1 next X (omega arith) (omega arith) sn in
     let z8 : E + 8 * 0 ≡ E = omega arith in
     let en3 : entries-of c1 X 0 (length rest) ≡ rest = entries-back c1 X 0 rest sr (subst (λ z. Stored c1 z (entry-bytes rest)) (sym z8) (log-fragment-back c1 E rest sc)) in
-    let kl : All (Kept c c1) lf = all-both (Apart g) (λ x. end-of x ≤ E) (Kept c c1) lf (λ x u v. beside-apart c c1 E g at o x u v) (a .others .1) e1 in
+    let kl : All (Kept c c1) lf = all-both (Apart g) (λ x. end-of x ≤ E) (Kept c c1) lf (λ x u v. other-same c c1 E g at 0 0 o x u v) (a .others .1) e1 in
     let far : All (λ x. Apart x X) (header-span ∷ gs) = all-weaker (λ x. end-of x ≤ E) (λ x. Apart x X) (λ x u. past-apart E X x (omega arith) u) (header-span ∷ gs) (by-end .0, e0) in
     let lg = length-append gs lf in
     let lx : length ((gs ++ (X ∷ [])) ++ lf) ≡ length (gs ++ lf) + 1 = length-append (gs ++ (X ∷ [])) lf ∙ omega (arith, length-append gs (X ∷ [])) in
@@ -249,7 +209,7 @@ log-done-spills c s y ls guid fit rest d f w q sf sr p r1 r2 few =
       few = omega arith;
       last = g;
       place = at;
-      beside = o;
+      around = o;
       apart = a .others;
       data-apart = a .contents;
     }

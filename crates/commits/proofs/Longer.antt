@@ -27,21 +27,22 @@ use Rattle.commits.proofs.Store.{length-written, stored-written, stored-front}
 use Rattle.commits.proofs.FragmentBack.{fragment-back}
 use Rattle.commits.proofs.Rows.{all-both, pair-between}
 use Rattle.commits.proofs.PartKept.{part-kept, ahead-other}
-use Rattle.commits.proofs.NodeAdded.{Made, around-none, around-past}
+use Rattle.commits.proofs.NodeAdded.{Made}
 use Rattle.commits.proofs.Bodies.{all-by-end, past-apart}
+use Rattle.commits.proofs.Around.{around-none, around-past}
 
 -- nothing of the old file is written: a fragment of no bytes
 all-apart : (fs : List Span) → All (Apart (span 0 0)) fs
 all-apart [] = tt
 all-apart (f ∷ fs) = ((λ i x y. omega (arith, x .1)), all-apart fs)
 
-rights-kept : (b c : List ℕ) (h h′ : Header) (ms : List NodeList) → Around b c (h .end) (span 0 0) 16 → h .end ≤ h′ .end → All (Right b h) ms → All (Right c h′) ms
+rights-kept : (b c : List ℕ) (h h′ : Header) (ms : List NodeList) → Around b c (h .end) (span 0 0) 16 16 8 → h .end ≤ h′ .end → All (Right b h) ms → All (Right c h′) ms
 rights-kept b c h h′ ms o k r = all-weaker (Right b h) (Right c h′) (λ m y. record { part = part-kept b c h h′ (span 0 0) 16 (m .id) (m .fragments) (m .nodes) (m .free) o k (ahead-other (span 0 0) 16 (m .fragments) (m .free) (all-apart (m .fragments))) (y .part); ends = y .ends }) ms r
 
 -- the lists, with any bytes behind the end
 pub body-longer : (b : List ℕ) (h : Header) (e : ℕ) (gs : List Span) (ls : List NodeList) (new : List ℕ) → Body b h gs ls → h .end + length new ≡ e → Body (written b (h .end) new) (up-to h e) gs ls
 body-longer b h e gs ls new d k =
-    let o = around-past b b (h .end) (span 0 0) 16 (h .end) new (omega arith) (d .whole) (around-none b (h .end) (span 0 0) 16 (omega arith) (d .whole)) in
+    let o = around-past b b (h .end) (span 0 0) 16 16 8 (h .end) new (omega arith) (d .whole) (around-none b (h .end) (span 0 0) 16 16 8 (omega arith) (d .whole)) in
     record {
       whole = omega (arith, length-written b (h .end) new (d .whole));
       least = omega (arith, d .least);

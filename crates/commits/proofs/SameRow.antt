@@ -21,8 +21,8 @@ use Rattle.meaning.proofs.Local.{Agree, spread-local, span-local}
 use Rattle.commits.specs.Body.{Right, Body}
 use Rattle.commits.proofs.Rows.{all-both, all-flat}
 use Rattle.commits.proofs.PartKept.{marked-same, spread-ends, inside-more}
-use Rattle.commits.proofs.Bodies.{Kept}
 use Rattle.commits.proofs.LogAdded.{Log-agree, row-local, chain-local, next-inside}
+use Rattle.commits.proofs.Around.{Kept}
 
 numbered-same : (b c : List ℕ) (end id i : ℕ) (fs : List Span) → All (Inside 36 end) fs → All (Kept b c) fs → Numbered b id i fs → Numbered c id i fs
 numbered-same b c end id i [] a k m = tt
