@@ -36,13 +36,13 @@ use Rattle.commits.proofs.NodeAdded.{Made, plain-made, referring-made}
 use Rattle.commits.proofs.Bodies.{referring-row, all-by-end, past-apart}
 use Rattle.commits.proofs.Longer.{body-longer, body-list, new-list}
 use Rattle.commits.proofs.Ties.{tied-header, tied-push, tied-branch}
-use Rattle.commits.proofs.Store.{same-written, stored-written, stored-front, piece-stored}
+use Rattle.commits.proofs.Store.{stored-written, stored-front, piece-stored}
 use Rattle.commits.proofs.Contents.{taken-push, taken-list, plain-holds, branch-holds, data-holds}
 use Rattle.commits.proofs.Layouts.{found, Addable, node-pushed, with-node-highest, with-node-touched}
 use Rattle.commits.proofs.Counting.{Counting, counting-push, counting-list, touch-again, touch-other, touch-same}
 use Rattle.commits.proofs.Growth.{Grows, longer-held, pushed-holds, list-holds, either-sum}
 use Rattle.commits.proofs.SameRow.{logs-same, headed-same}
-use Rattle.commits.proofs.Around.{Kept}
+use Rattle.commits.proofs.Around.{Kept, past-kept}
 
 -- the lists of a draft, and that they are the reached ones
 pub record Drafted (c : List ℕ) (s : Section) (y : Layout) (ls : List NodeList) : Type 0 where
@@ -59,10 +59,6 @@ pub record Drafted (c : List ℕ) (s : Section) (y : Layout) (ls : List NodeList
 carried : (c c′ : List ℕ) (s : Section) → All (Kept c c′) (header-span ∷ s .log .fragments) → s .header .end ≤ length c′ → Headed c (s .header) × Logs c (s .header) (s .log)
     → Headed c′ (s .header) × Logs c′ (s .header) (s .log)
 carried c c′ s (k, ks) l (h, g) = (headed-same c c′ (s .header) k l h, logs-same c c′ (s .header) (s .log) ks g)
-
--- a write behind the end
-past-kept : (b : List ℕ) (p : ℕ) (new : List ℕ) (fs : List Span) → p ≤ length b → All (λ f. end-of f ≤ p) fs → All (Kept b (written b p new)) fs
-past-kept b p new fs h a = all-weaker (λ f. end-of f ≤ p) (Kept b (written b p new)) (λ f x. same-written b p new (f .start) (end-of f) h (inl x)) fs a
 
 -- the numbers of a layout that is within bounds
 pub record Fine (y : Layout) : Type 0 where

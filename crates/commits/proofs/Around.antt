@@ -1,18 +1,20 @@
 -- Writes in one fragment and behind the end: what stays of a row.
 -- Assumes nothing.
-use Prim.Native.Nat.{ℕ, _+_, _<_, _≤_}
-use mathlib.Core.Path.{_≡_, refl, sym, _∙_}
+use Prim.Native.Nat.{ℕ, _+_, _≤_}
+use mathlib.Core.Path.{refl, sym, _∙_}
 use mathlib.Core.Logic.{inl, inr}
 use mathlib.Core.List.{List}
 use native.Mathlib.Omega.{arith}
 use lib.ListN.{length}
 use Rattle.std.proofs.shelf.Tests.{cases-lt}
+use Rattle.std.specs.shelf.Lists.{All}
+use Rattle.std.proofs.shelf.Elements.{all-weaker}
 use Rattle.model.specs.declared.types.Span.{Span}
 use Rattle.model.specs.Bytes.{written, Same}
 use Rattle.model.specs.References.{end-of}
 use Rattle.model.specs.Means.{Apart}
 use Rattle.commits.specs.Around.{Around}
-use Rattle.commits.proofs.Store.{length-written, written-below, written-above}
+use Rattle.commits.proofs.Store.{length-written, written-below, written-above, same-written}
 
 -- the bytes of a range are the same
 abbrev pub Kept : List ℕ → List ℕ → Span → Type 0
@@ -54,3 +56,7 @@ other-same b c end g lo front back o f a h i l k = elim (cases-lt i lo) [
     | inr y ↦ o .kept i (omega arith) (inr y)
   ]
 ]
+
+-- what ends before a write
+pub past-kept : (b : List ℕ) (p : ℕ) (new : List ℕ) (fs : List Span) → p ≤ length b → All (λ f. end-of f ≤ p) fs → All (Kept b (written b p new)) fs
+past-kept b p new fs h a = all-weaker (λ f. end-of f ≤ p) (Kept b (written b p new)) (λ f x. same-written b p new (f .start) (end-of f) h (inl x)) fs a

@@ -1,7 +1,7 @@
 -- What lists hold: it is the same in a row that has their data, and one node or one list more adds to it at one ID.
 -- Assumes nothing.
 use Prim.Native.Nat.{ℕ, _<_, _≤_}
-use mathlib.Core.Path.{_≡_, refl, sym, ap, subst}
+use mathlib.Core.Path.{_≡_, refl, sym, ap, subst, _∙_}
 use mathlib.Core.Logic.{_≢_, inl, inr}
 use mathlib.Core.Bool.{true, false, cond, _&&_, _||_}
 use mathlib.Core.List.{List, [], _∷_, _++_, map}
@@ -11,7 +11,7 @@ use lib.ListN.{length}
 use Rattle.std.specs.shelf.Lists.{All}
 use Rattle.std.specs.declared.option.Option.the-variants.{Some, None}
 use Rattle.std.proofs.shelf.Lists.{append-nil}
-use Rattle.std.proofs.shelf.Tests.{cases-bool}
+use Rattle.std.proofs.shelf.Tests.{cases-bool, ne-eqb, eqb-true}
 use Rattle.std.proofs.shelf.Ways.{tells}
 use Rattle.model.specs.declared.types.Span.{Span}
 use Rattle.model.specs.Bytes.{piece}
@@ -72,10 +72,7 @@ lists-held b c ls id a = nodes-held b c (nodes-of ls id) (nodes-data (Data-same 
 -- one more ---------------------------------------------------------------------------------------------------------------
 
 differ : (x y id : ℕ) → x ≢ y → eqb x id ≡ true → eqb y id ≡ false
-differ x y id n e = elim (cases-bool (eqb y id)) [
-  | inl f ↦ absurd (n (grind (arith, tells)))
-  | inr f ↦ f
-]
+differ x y id n e = ne-eqb y id (λ q. n (eqb-true x id e ∙ sym q))
 
 pub nodes-push : (pre : List NodeList) (l l′ : NodeList) (post : List NodeList) (n : Node) (id : ℕ) → l′ .id ≡ l .id → l′ .nodes ≡ l .nodes ++ (n ∷ []) → Pairwise (λ l m. l .id ≢ m .id) (pre ++ (l ∷ post))
     → nodes-of (pre ++ (l′ ∷ post)) id ≡ nodes-of (pre ++ (l ∷ post)) id ++ cond (eqb (l .id) id) (n ∷ []) []

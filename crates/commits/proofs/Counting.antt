@@ -10,7 +10,7 @@ use lib.Dec.{eqb}
 use lib.ListN.{length}
 use Rattle.std.specs.shelf.Lists.{All}
 use Rattle.std.proofs.shelf.Lists.{append-nil, map-append}
-use Rattle.std.proofs.shelf.Tests.{cases-bool}
+use Rattle.std.proofs.shelf.Tests.{cases-bool, ne-eqb}
 use Rattle.std.proofs.shelf.Ways.{tells}
 use Rattle.std.proofs.shelf.Elements.{all-append, all-weaker}
 use Rattle.model.specs.declared.types.Entry.{Entry}
@@ -44,10 +44,7 @@ pub touch-other : (x id : ℕ) (ids : List ℕ) → x ≢ id → member x (touch
 touch-other x id ids n = elim (cases-bool (member id ids)) [
   | inl e ↦ rw e
   | inr e ↦
-      let q : eqb id x ≡ false = elim (cases-bool (eqb id x)) [
-        | inl y ↦ absurd (n (grind (arith, tells)))
-        | inr y ↦ y
-      ] in
+      let q = ne-eqb id x (λ z. n (sym z)) in
       rw e (member-push x id ids ∙ rw q (elim (cases-bool (member x ids)) [
         | inl y ↦ rw y
         | inr y ↦ rw y
@@ -149,10 +146,7 @@ counted-after ts ids count ls a c = all-both (Counts ts ids) (λ l. count (l .id
 latest-other : (id : ℕ) (before : List Entry) (e : Entry) → e .source ≢ id → latest id 0 (before ++ (e ∷ [])) ≡ latest id 0 before
 unfolding latest
 latest-other id before e n =
-    let q : eqb (e .source) id ≡ false = elim (cases-bool (eqb (e .source) id)) [
-      | inl y ↦ absurd (n (grind (arith, tells)))
-      | inr y ↦ y
-    ] in
+    let q = ne-eqb (e .source) id n in
     latest-row id 0 before (e ∷ []) ∙ ap (λ z. cond z (e .number) (latest id 0 before)) q
 
 -- entries of distinct lists, each above the list's last

@@ -10,7 +10,7 @@ use lib.Dec.{eqb, ltb, leb}
 use lib.ListN.{length}
 use Rattle.std.specs.shelf.Lists.{All}
 use Rattle.std.proofs.shelf.Lists.{length-append, length-map}
-use Rattle.std.proofs.shelf.Tests.{cases-bool}
+use Rattle.std.proofs.shelf.Tests.{cases-bool, ne-eqb}
 use Rattle.std.proofs.shelf.Ways.{tells}
 use Rattle.std.proofs.shelf.Elements.{all-weaker}
 use Rattle.model.specs.declared.types.Span.{Span}
@@ -51,10 +51,7 @@ tails-count (m ∷ ls) (p, ps) =
     let own : find-tail (map tail-of (m ∷ ls)) (m .id) .count ≡ length (m .nodes) = ap (λ z. cond z (tail-of m) (find-tail (map tail-of ls) (m .id)) .count) q in
     (own, all-both (λ l. m .id ≢ l .id) (λ l. find-tail (map tail-of ls) (l .id) .count ≡ length (l .nodes)) (λ l. find-tail (map tail-of (m ∷ ls)) (l .id) .count ≡ length (l .nodes)) ls
       (λ l n e.
-        let f : eqb (m .id) (l .id) ≡ false = elim (cases-bool (eqb (m .id) (l .id))) [
-          | inl y ↦ absurd (n (grind (arith, tells)))
-          | inr y ↦ y
-        ] in
+        let f = ne-eqb (m .id) (l .id) n in
         ap (λ z. cond z (tail-of m) (find-tail (map tail-of ls) (l .id)) .count) f ∙ e) p (tails-count ls ps))
 
 -- what holds of each list's ID holds of an ID among them

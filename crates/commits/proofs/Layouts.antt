@@ -10,7 +10,7 @@ use lib.Dec.{eqb, leb}
 use lib.ListN.{length, replicate}
 use Rattle.std.specs.shelf.Lists.{All}
 use Rattle.std.proofs.shelf.Lists.{length-append, getD-append-left}
-use Rattle.std.proofs.shelf.Tests.{cases-bool}
+use Rattle.std.proofs.shelf.Tests.{cases-bool, ne-eqb}
 use Rattle.std.proofs.shelf.Ways.{tells}
 use Rattle.std.proofs.shelf.Elements.{all-append, all-weaker}
 use Rattle.model.specs.declared.types.Span.{Span}
@@ -58,10 +58,7 @@ found (l ∷ ls) id e = elim (cases-bool (eqb (l .id) id)) [
 tails-other : (t : Tail) (ms : List NodeList) → All (λ m. t .id ≢ m .id) ms → with-tail t (map tail-of ms) ≡ map tail-of ms
 tails-other t [] a = refl
 tails-other t (m ∷ ms) (p, a) =
-    let e : eqb (m .id) (t .id) ≡ false = elim (cases-bool (eqb (m .id) (t .id))) [
-      | inl x ↦ absurd (p (grind (arith, tells)))
-      | inr x ↦ x
-    ] in
+    let e = ne-eqb (m .id) (t .id) (λ z. p (sym z)) in
     rw e (ap (λ z. tail-of m ∷ z) (tails-other t ms a))
 
 tails-with : (l′ : NodeList) (pre : List NodeList) (l : NodeList) (post : List NodeList) → l′ .id ≡ l .id → Pairwise (λ l m. l .id ≢ m .id) (pre ++ (l ∷ post))
@@ -72,10 +69,7 @@ tails-with l′ [] l post e (a, p) =
 tails-with l′ (k ∷ pre) l post e (a, p) =
     let (u, v) = all-front (λ m. k .id ≢ m .id) pre (l ∷ post) a in
     let d = v .0 in
-    let x : eqb (k .id) (l′ .id) ≡ false = elim (cases-bool (eqb (k .id) (l′ .id))) [
-      | inl y ↦ absurd (d (let z : k .id ≡ l′ .id = grind (arith, tells) in z ∙ e))
-      | inr y ↦ y
-    ] in
+    let x = ne-eqb (k .id) (l′ .id) (λ z. d (z ∙ e)) in
     rw x (ap (λ z. tail-of k ∷ z) (tails-with l′ pre l post e p))
 
 -- what is planned --------------------------------------------------------------------------------------------------------

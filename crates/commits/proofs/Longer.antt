@@ -18,41 +18,24 @@ use Rattle.model.specs.ListFragments.{nodes-to, new-fragment}
 use Rattle.model.specs.Section.{NodeList, list-fragments}
 use Rattle.model.specs.Means.{Apart, Pairwise, within, data-spans}
 use Rattle.meaning.proofs.Members.{flat-append}
-use Rattle.meaning.proofs.Base.{references}
+use Rattle.meaning.proofs.Base.{references, all-front}
 use Rattle.commits.specs.Stored.{Stored}
-use Rattle.commits.specs.Around.{Around}
 use Rattle.commits.specs.Body.{Right, Body, up-to}
 use Rattle.commits.proofs.Sizes.{length-new-fragment}
 use Rattle.commits.proofs.Store.{length-written, stored-written, stored-front}
 use Rattle.commits.proofs.FragmentBack.{fragment-back}
 use Rattle.commits.proofs.Rows.{all-both, pair-between}
-use Rattle.commits.proofs.PartKept.{part-kept, ahead-other}
 use Rattle.commits.proofs.NodeAdded.{Made}
 use Rattle.commits.proofs.Bodies.{all-by-end, past-apart}
-use Rattle.commits.proofs.Around.{around-none, around-past}
-
--- nothing of the old file is written: a fragment of no bytes
-all-apart : (fs : List Span) → All (Apart (span 0 0)) fs
-all-apart [] = tt
-all-apart (f ∷ fs) = ((λ i x y. omega (arith, x .1)), all-apart fs)
-
-rights-kept : (b c : List ℕ) (h h′ : Header) (ms : List NodeList) → Around b c (h .end) (span 0 0) 16 16 8 → h .end ≤ h′ .end → All (Right b h) ms → All (Right c h′) ms
-rights-kept b c h h′ ms o k r = all-weaker (Right b h) (Right c h′) (λ m y. record { part = part-kept b c h h′ (span 0 0) 16 (m .id) (m .fragments) (m .nodes) (m .free) o k (ahead-other (span 0 0) 16 (m .fragments) (m .free) (all-apart (m .fragments))) (y .part); ends = y .ends }) ms r
+use Rattle.commits.proofs.Around.{past-kept}
+use Rattle.commits.proofs.SameRow.{body-same}
 
 -- the lists, with any bytes behind the end
 pub body-longer : (b : List ℕ) (h : Header) (e : ℕ) (gs : List Span) (ls : List NodeList) (new : List ℕ) → Body b h gs ls → h .end + length new ≡ e → Body (written b (h .end) new) (up-to h e) gs ls
 body-longer b h e gs ls new d k =
-    let o = around-past b b (h .end) (span 0 0) 16 16 8 (h .end) new (omega arith) (d .whole) (around-none b (h .end) (span 0 0) 16 16 8 (omega arith) (d .whole)) in
-    record {
-      whole = omega (arith, length-written b (h .end) new (d .whole));
-      least = omega (arith, d .least);
-      lists = rights-kept b (written b (h .end) new) h (up-to h e) ls o (omega arith) (d .lists);
-      ids-differ = d .ids-differ;
-      log-inside = all-weaker (λ f. end-of f ≤ h .end) (λ f. end-of f ≤ e) (λ f x. omega arith) gs (d .log-inside);
-      apart = d .apart;
-      data-inside = all-weaker (λ r. end-of r ≤ h .end) (λ r. end-of r ≤ e) (λ r x. omega arith) (data-spans ls) (d .data-inside);
-      data-apart = d .data-apart;
-    }
+    let lc = length-written b (h .end) new (d .whole) in
+    let a = all-front (λ f. end-of f ≤ h .end) gs (list-fragments ls) (all-by-end b h gs ls d .1) .1 in
+    body-same b (written b (h .end) new) h (up-to h e) gs ls d (omega arith) (omega arith) (past-kept b (h .end) new (list-fragments ls) (d .whole) a)
 
 -- a new list, of one node in one fragment
 abbrev pub new-list : ℕ → ℕ → Node → ℕ → NodeList
