@@ -14,9 +14,10 @@ use Rattle.std.proofs.shelf.Lists.{append-assoc, append-nil, length-append, len
 use Rattle.std.proofs.shelf.Tests.{cases-bool}
 use Rattle.std.proofs.shelf.Elements.{all-append, all-weaker}
 use Rattle.model.specs.declared.types.Span.{Span}
+use Rattle.model.specs.declared.types.Header.{Header}
 use Rattle.model.specs.Bytes.{piece, written, applied, behind}
 use Rattle.model.specs.References.{span, end-of, present}
-use Rattle.model.specs.Headers.{header-span, Header}
+use Rattle.model.specs.Headers.{header-span}
 use Rattle.model.specs.Nodes.{Node, plain-node, referring-node, field-of, referring}
 use Rattle.model.specs.ListFragments.{new-fragment}
 use Rattle.model.specs.Section.{NodeList, Section, list-fragments}

@@ -13,9 +13,10 @@ use Rattle.std.proofs.shelf.Lists.{append-assoc, map-append}
 use Rattle.std.proofs.shelf.Tests.{cases-bool}
 use Rattle.std.proofs.shelf.Elements.{all-append, all-weaker}
 use Rattle.model.specs.declared.types.Span.{Span}
+use Rattle.model.specs.declared.types.Header.{Header}
 use Rattle.model.specs.Bytes.{written}
 use Rattle.model.specs.References.{span, end-of, present}
-use Rattle.model.specs.Headers.{header-span, Header}
+use Rattle.model.specs.Headers.{header-span}
 use Rattle.model.specs.Nodes.{Node, referring}
 use Rattle.model.specs.ListFragments.{nodes-to, new-fragment}
 use Rattle.model.specs.Section.{NodeList, Section, last-of, list-fragments}

@@ -15,9 +15,9 @@ use Rattle.std.proofs.shelf.Tests.{cases-bool}
 use Rattle.std.proofs.shelf.Elements.{all-append, all-weaker}
 use Rattle.model.specs.declared.types.Span.{Span}
 use Rattle.model.specs.declared.types.Entry.{Entry}
+use Rattle.model.specs.declared.types.Header.{Header}
 use Rattle.model.specs.Bytes.{le, Bytes}
 use Rattle.model.specs.LogFragments.{sentinel, entries-in, entry-place}
-use Rattle.model.specs.Headers.{Header}
 use Rattle.model.specs.Section.{Log, NodeList, Section, flat, latest}
 use Rattle.model.specs.Nodes.{Node}
 use Rattle.model.specs.Means.{entries-of, log-row, closed, Logs, Numbered, Spread, within, across, Stands, Means}

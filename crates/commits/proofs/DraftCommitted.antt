@@ -15,9 +15,10 @@ use Rattle.std.proofs.shelf.Ways.{tells}
 use Rattle.std.proofs.shelf.Elements.{all-weaker}
 use Rattle.model.specs.declared.types.Span.{Span}
 use Rattle.model.specs.declared.types.Entry.{Entry}
+use Rattle.model.specs.declared.types.Header.{Header}
 use Rattle.model.specs.Bytes.{Write, applied}
 use Rattle.model.specs.References.{end-of}
-use Rattle.model.specs.Headers.{header-span, Header}
+use Rattle.model.specs.Headers.{header-span}
 use Rattle.model.specs.LogFragments.{entry, sentinel}
 use Rattle.model.specs.Section.{Log, NodeList, Section, flat, count-in, list-fragments}
 use Rattle.model.specs.Means.{Apart, Pairwise, Headed, data-spans, Means}

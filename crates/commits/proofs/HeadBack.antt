@@ -7,9 +7,10 @@ use mathlib.Core.List.{List, [], _∷_}
 use native.Mathlib.Omega.{arith}
 use lib.ListN.{length, getD, take}
 use Rattle.std.proofs.shelf.Lists.{length-take, getD-take}
+use Rattle.model.specs.declared.types.Header.{Header}
 use Rattle.model.specs.Bytes.{le, digits, piece, written, applied, Same}
 use Rattle.model.specs.References.{span-at}
-use Rattle.model.specs.Headers.{Header, header-at}
+use Rattle.model.specs.Headers.{header-at}
 use Rattle.model.specs.Means.{Headed}
 use Rattle.model.specs.Committing.{header-write}
 use Rattle.commits.specs.Stored.{Stored}

@@ -10,9 +10,10 @@ use Rattle.std.specs.shelf.Lists.{All}
 use Rattle.std.proofs.shelf.Tests.{cases-lt}
 use Rattle.std.proofs.shelf.Elements.{all-weaker}
 use Rattle.model.specs.declared.types.Span.{Span}
+use Rattle.model.specs.declared.types.Header.{Header}
 use Rattle.model.specs.Bytes.{applied, Same}
 use Rattle.model.specs.References.{end-of}
-use Rattle.model.specs.Headers.{header-span, Header}
+use Rattle.model.specs.Headers.{header-span}
 use Rattle.model.specs.Section.{Log, NodeList, Section, count-in, list-fragments}
 use Rattle.model.specs.Means.{Apart, Headed, Logs, Stands, Means}
 use Rattle.model.specs.Committing.{header-write}

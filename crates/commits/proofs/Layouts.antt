@@ -14,9 +14,10 @@ use Rattle.std.proofs.shelf.Tests.{cases-bool, ne-eqb}
 use Rattle.std.proofs.shelf.Ways.{tells}
 use Rattle.std.proofs.shelf.Elements.{all-append, all-weaker}
 use Rattle.model.specs.declared.types.Span.{Span}
+use Rattle.model.specs.declared.types.Header.{Header}
 use Rattle.model.specs.Bytes.{Write, put, written, applied, behind}
 use Rattle.model.specs.References.{span, span-bytes}
-use Rattle.model.specs.Headers.{header-span, Header}
+use Rattle.model.specs.Headers.{header-span}
 use Rattle.model.specs.Nodes.{Node}
 use Rattle.model.specs.ListFragments.{nodes-from, nodes-to, new-fragment}
 use Rattle.model.specs.Section.{NodeList, Section, last-of, list-fragments, first-of}

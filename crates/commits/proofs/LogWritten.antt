@@ -14,9 +14,10 @@ use Rattle.std.proofs.shelf.Ways.{tells}
 use Rattle.std.proofs.shelf.Elements.{all-append, all-weaker}
 use Rattle.model.specs.declared.types.Span.{Span}
 use Rattle.model.specs.declared.types.Entry.{Entry}
+use Rattle.model.specs.declared.types.Header.{Header}
 use Rattle.model.specs.Bytes.{Write, put, written, applied, behind}
 use Rattle.model.specs.References.{span, end-of, span-at, span-bytes}
-use Rattle.model.specs.Headers.{header-span, Header}
+use Rattle.model.specs.Headers.{header-span}
 use Rattle.model.specs.LogFragments.{entry-bytes, entries-in, entry-place, log-next, new-log-fragment}
 use Rattle.model.specs.Section.{Log, NodeList, Section, last-of, list-fragments}
 use Rattle.model.specs.Means.{Apart, Pairwise, Inside, entries-of, closed, Logs, data-spans}

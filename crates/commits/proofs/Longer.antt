@@ -10,9 +10,10 @@ use Rattle.std.specs.shelf.Lists.{All}
 use Rattle.std.proofs.shelf.Lists.{append-assoc, append-nil, length-append}
 use Rattle.std.proofs.shelf.Elements.{all-append, all-weaker}
 use Rattle.model.specs.declared.types.Span.{Span}
+use Rattle.model.specs.declared.types.Header.{Header}
 use Rattle.model.specs.Bytes.{written}
 use Rattle.model.specs.References.{span, end-of}
-use Rattle.model.specs.Headers.{header-span, Header}
+use Rattle.model.specs.Headers.{header-span}
 use Rattle.model.specs.Nodes.{Node, referring}
 use Rattle.model.specs.ListFragments.{nodes-to, new-fragment}
 use Rattle.model.specs.Section.{NodeList, list-fragments}

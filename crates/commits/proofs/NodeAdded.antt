@@ -12,9 +12,9 @@ use Rattle.std.proofs.shelf.Lists.{length-append}
 use Rattle.std.proofs.shelf.Tests.{cases-lt}
 use Rattle.std.proofs.shelf.Ways.{tells}
 use Rattle.model.specs.declared.types.Span.{Span}
+use Rattle.model.specs.declared.types.Header.{Header}
 use Rattle.model.specs.Bytes.{le, Write, put, written, applied, Same}
 use Rattle.model.specs.References.{span, end-of, span-at, span-bytes}
-use Rattle.model.specs.Headers.{Header}
 use Rattle.model.specs.Nodes.{Node, hands-over, plain-node, referring-node, terminator}
 use Rattle.model.specs.ListFragments.{nodes-from, nodes-to, new-fragment}
 use Rattle.model.specs.Section.{last-of}

@@ -11,9 +11,9 @@ use lib.ListN.{length}
 use Rattle.std.specs.shelf.Lists.{All}
 use Rattle.std.proofs.shelf.Lists.{append-assoc}
 use Rattle.model.specs.declared.types.Span.{Span}
+use Rattle.model.specs.declared.types.Header.{Header}
 use Rattle.model.specs.Bytes.{le, Same}
 use Rattle.model.specs.References.{span, end-of, span-at}
-use Rattle.model.specs.Headers.{Header}
 use Rattle.model.specs.Nodes.{Node, hands-over}
 use Rattle.model.specs.ListFragments.{nodes-from, nodes-to}
 use Rattle.model.specs.Section.{last-of}

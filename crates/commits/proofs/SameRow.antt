@@ -9,9 +9,10 @@ use Rattle.std.specs.shelf.Lists.{All}
 use Rattle.std.proofs.shelf.Lists.{ext-getD, length-take, getD-take}
 use Rattle.std.proofs.shelf.Elements.{all-weaker}
 use Rattle.model.specs.declared.types.Span.{Span}
+use Rattle.model.specs.declared.types.Header.{Header}
 use Rattle.model.specs.Bytes.{Same}
 use Rattle.model.specs.References.{span, end-of}
-use Rattle.model.specs.Headers.{header-span, Header, header-at}
+use Rattle.model.specs.Headers.{header-span, header-at}
 use Rattle.model.specs.LogFragments.{entries-in}
 use Rattle.model.specs.Section.{Log, NodeList, last-of, list-fragments}
 use Rattle.model.specs.Means.{Inside, Headed, Logs, Numbered, data-spans}

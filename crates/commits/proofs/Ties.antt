@@ -10,7 +10,7 @@ use Rattle.std.specs.shelf.Lists.{All, Has}
 use Rattle.std.proofs.shelf.Lists.{append-nil, length-append, length-map, map-append}
 use Rattle.std.proofs.shelf.Elements.{all-append, all-weaker, has-append-left, has-append-right}
 use Rattle.model.specs.declared.types.Span.{Span}
-use Rattle.model.specs.Headers.{Header}
+use Rattle.model.specs.declared.types.Header.{Header}
 use Rattle.model.specs.Section.{NodeList, flat, first-of}
 use Rattle.model.specs.OpenedLists.{Named, named-by, named-first}
 use Rattle.model.specs.Means.{named-in, Reached, by-header, by-node}

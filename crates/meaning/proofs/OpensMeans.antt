@@ -11,10 +11,11 @@ use Rattle.std.proofs.shelf.Lists.{append-nil, length-map}
 use Rattle.std.proofs.shelf.Ways.{tells}
 use Rattle.std.proofs.shelf.Elements.{all-append}
 use Rattle.model.specs.declared.types.Span.{Span}
+use Rattle.model.specs.declared.types.Header.{Header}
 use Rattle.model.specs.Bytes.{piece, same-row}
 use Rattle.model.specs.Faults.{done, Check}
 use Rattle.model.specs.References.{end-of}
-use Rattle.model.specs.Headers.{header-span, most, file-type, file-format, Header, header-at}
+use Rattle.model.specs.Headers.{header-span, most, file-type, file-format, header-at}
 use Rattle.model.specs.Nodes.{Node, referring}
 use Rattle.model.specs.Section.{Log, NodeList, Section, flat, list-fragments, first-of}
 use Rattle.model.specs.OpenedLog.{log-from, reading}

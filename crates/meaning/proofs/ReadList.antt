@@ -12,10 +12,11 @@ use Rattle.std.proofs.shelf.Lists.{append-assoc, append-nil, length-append, len
 use Rattle.std.proofs.shelf.Ways.{tells}
 use Rattle.std.proofs.shelf.Tests.{and-right}
 use Rattle.model.specs.declared.types.Span.{Span}
+use Rattle.model.specs.declared.types.Header.{Header}
 use Rattle.model.specs.Bytes.{le}
 use Rattle.model.specs.Faults.{done, unless, then}
 use Rattle.model.specs.References.{span-at}
-use Rattle.model.specs.Headers.{header-span, Header}
+use Rattle.model.specs.Headers.{header-span}
 use Rattle.model.specs.Nodes.{Node, node-at, hands-over}
 use Rattle.model.specs.ListFragments.{owner, unmarked, sequence, nodes-from, nodes-to}
 use Rattle.model.specs.Section.{Log, NodeList, last-of, count-in, first-of}

@@ -13,9 +13,10 @@ use Rattle.std.proofs.shelf.Lists.{append-assoc, append-nil, length-append}
 use Rattle.std.proofs.shelf.Ways.{tells}
 use Rattle.model.specs.declared.types.Span.{Span}
 use Rattle.model.specs.declared.types.Entry.{Entry}
+use Rattle.model.specs.declared.types.Header.{Header}
 use Rattle.model.specs.Faults.{done, unless, then}
 use Rattle.model.specs.References.{span-at}
-use Rattle.model.specs.Headers.{header-span, Header}
+use Rattle.model.specs.Headers.{header-span}
 use Rattle.model.specs.LogFragments.{entry-at, sentinel, entries-in, entry-place, log-next}
 use Rattle.model.specs.Section.{Log, flat, last-of, latest}
 use Rattle.model.specs.OpenedLog.{Reading, LogPart, finished, unfinished, log-entries, log-from, reading, log-goes, log-checks}

@@ -14,9 +14,10 @@ use Rattle.std.proofs.shelf.Ways.{tells}
 use Rattle.std.proofs.shelf.Tests.{or-from}
 use Rattle.std.proofs.shelf.Elements.{all-weaker}
 use Rattle.model.specs.declared.types.Span.{Span}
+use Rattle.model.specs.declared.types.Header.{Header}
 use Rattle.model.specs.Faults.{done, then}
 use Rattle.model.specs.References.{span}
-use Rattle.model.specs.Headers.{header-span, Header}
+use Rattle.model.specs.Headers.{header-span}
 use Rattle.model.specs.ListFragments.{owner}
 use Rattle.model.specs.Section.{Log, NodeList, flat, count-in, list-fragments, first-of}
 use Rattle.model.specs.OpenedLists.{taken, list-from, Named, named-by, named-first, lists-from, named-list}

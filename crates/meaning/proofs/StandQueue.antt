@@ -13,8 +13,9 @@ use Rattle.std.proofs.shelf.Lists.{append-assoc, append-nil, length-append}
 use Rattle.std.proofs.shelf.Ways.{tells}
 use Rattle.std.proofs.shelf.Tests.{or-parts}
 use Rattle.std.proofs.shelf.Elements.{all-append, all-weaker}
+use Rattle.model.specs.declared.types.Header.{Header}
 use Rattle.model.specs.Faults.{done}
-use Rattle.model.specs.Headers.{header-span, Header}
+use Rattle.model.specs.Headers.{header-span}
 use Rattle.model.specs.ListFragments.{owner}
 use Rattle.model.specs.Section.{Log, NodeList, count-in, list-fragments, first-of}
 use Rattle.model.specs.OpenedLists.{taken, Named, named-by, lists-from, named-list}

@@ -8,10 +8,12 @@ use lib.ListN.{length, drop}
 use Rattle.std.specs.shelf.Lists.{All, Has}
 use Rattle.model.specs.declared.types.Span.{Span}
 use Rattle.model.specs.declared.types.Entry.{Entry}
+use Rattle.model.specs.declared.types.Fault.{Fault}
+use Rattle.model.specs.declared.types.Header.{Header}
 use Rattle.model.specs.Bytes.{le}
-use Rattle.model.specs.Faults.{Fault, fault, Check}
+use Rattle.model.specs.Faults.{fault, Check}
 use Rattle.model.specs.References.{span, end-of, span-at}
-use Rattle.model.specs.Headers.{header-span, Header}
+use Rattle.model.specs.Headers.{header-span}
 use Rattle.model.specs.Nodes.{Node, hands-over, bad-node, field-of, referring}
 use Rattle.model.specs.ListFragments.{owner, nodes-to}
 use Rattle.model.specs.LogFragments.{entry-at, sentinel, entries-in, entry-place, log-next}

@@ -6,8 +6,9 @@ use lib.Dec.{eqb, ltb, leb}
 use lib.ListN.{length}
 use Rattle.std.specs.declared.option.Option.{Option}
 use Rattle.std.specs.declared.option.Option.the-variants.{Some, None}
+use Rattle.model.specs.declared.types.Fault.{Fault}
 use Rattle.model.specs.Bytes.{same-row, Write, applied}
-use Rattle.model.specs.Faults.{Fault, fault, Outcome, done, refused, Check, unless, then}
+use Rattle.model.specs.Faults.{fault, Outcome, done, refused, Check, unless, then}
 use Rattle.model.specs.Headers.{most}
 use Rattle.model.specs.Section.{Section}
 use Rattle.model.specs.Opened.{opened}

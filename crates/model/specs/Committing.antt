@@ -5,9 +5,9 @@ use mathlib.Core.List.{List, [], _∷_, _++_, map}
 use lib.Dec.{ltb}
 use lib.ListN.{length, take, drop}
 use Rattle.model.specs.declared.types.Entry.{Entry}
+use Rattle.model.specs.declared.types.Header.{Header}
 use Rattle.model.specs.Bytes.{digits, Write, put, applied, behind}
 use Rattle.model.specs.References.{span, span-bytes}
-use Rattle.model.specs.Headers.{Header}
 use Rattle.model.specs.LogFragments.{entry, entry-bytes, sentinel, entries-in, entry-place, log-next, new-log-fragment}
 use Rattle.model.specs.Section.{Section, last-of}
 use Rattle.model.specs.Layouts.{Add, Layout, find-tail}

@@ -2,14 +2,9 @@
 use Prim.Native.Nat.{ℕ}
 use mathlib.Core.Bool.{Bool, cond}
 use mathlib.Core.List.{List, [], _∷_}
+use Rattle.model.specs.declared.types.Fault.{Fault}
 
 -- what a refusal tells
-pub record Fault : Type 0 where
-  pub number : ℕ
-  pub layer : ℕ
-  pub place : ℕ
-  pub list : ℕ
-
 abbrev pub fault : ℕ → ℕ → ℕ → ℕ → Fault
 fault n l p i = record { number = n; layer = l; place = p; list = i }
 

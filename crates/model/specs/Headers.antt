@@ -2,6 +2,7 @@
 use Prim.Native.Nat.{ℕ, _^_}
 use mathlib.Core.List.{List, [], _∷_, _++_}
 use Rattle.model.specs.declared.types.Span.{Span}
+use Rattle.model.specs.declared.types.Header.{Header}
 use Rattle.model.specs.Bytes.{le, digits, piece}
 use Rattle.model.specs.References.{span, span-at}
 
@@ -20,18 +21,6 @@ file-type = digits 4 0x7B5C52E4 ++ digits 2 0xD88C ++ digits 2 0x4DA7 ++ 0xAE �
 -- {109ADD3F-911B-49F5-A5D0-1791EDC8AED8}
 abbrev pub file-format : List ℕ
 file-format = digits 4 0x109ADD3F ++ digits 2 0x911B ++ digits 2 0x49F5 ++ 0xA5 ∷ 0xD0 ∷ 0x17 ∷ 0x91 ∷ 0xED ∷ 0xC8 ∷ 0xAE ∷ 0xD8 ∷ []
-
-pub record Header : Type 0 where
-  -- cTransactionsInLog, cbExpectedFileLength, nFileVersionGeneration
-  pub count : ℕ
-  pub end : ℕ
-  pub generation : ℕ
-  -- guidFileVersion
-  pub version : List ℕ
-  -- fcrHashedChunkList, fcrTransactionLog, fcrFileNodeListRoot
-  pub hashed : Span
-  pub log : Span
-  pub root : Span
 
 abbrev pub header-at : List ℕ → Header
 header-at b = record {

@@ -9,8 +9,9 @@ use Rattle.std.specs.declared.option.Option.{Option}
 use Rattle.std.specs.declared.option.Option.the-variants.{Some, None}
 use Rattle.std.specs.shelf.Lists.{All, Has}
 use Rattle.model.specs.declared.types.Span.{Span}
+use Rattle.model.specs.declared.types.Fault.{Fault}
 use Rattle.model.specs.Bytes.{Write, applied, behind, Bytes}
-use Rattle.model.specs.Faults.{Fault, done, refused}
+use Rattle.model.specs.Faults.{done, refused}
 use Rattle.model.specs.References.{span, end-of}
 use Rattle.model.specs.Headers.{header-span}
 use Rattle.model.specs.LogFragments.{entry-place, log-next}

@@ -8,9 +8,10 @@ use lib.ListN.{length}
 use Rattle.std.specs.shelf.Lists.{All, Has}
 use Rattle.model.specs.declared.types.Span.{Span}
 use Rattle.model.specs.declared.types.Entry.{Entry}
+use Rattle.model.specs.declared.types.Header.{Header}
 use Rattle.model.specs.Bytes.{le, piece}
 use Rattle.model.specs.References.{span, end-of, span-at}
-use Rattle.model.specs.Headers.{header-span, file-type, file-format, Header, header-at}
+use Rattle.model.specs.Headers.{header-span, file-type, file-format, header-at}
 use Rattle.model.specs.Nodes.{Node, top-bit, reference-width, node-at, hands-over, referring}
 use Rattle.model.specs.ListFragments.{first-mark, last-mark, owner, sequence, nodes-from, nodes-to}
 use Rattle.model.specs.LogFragments.{entry-at, sentinel, entries-in, entry-place, log-next}

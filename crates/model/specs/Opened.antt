@@ -5,10 +5,11 @@ use mathlib.Core.List.{List, [], _∷_, _++_, map}
 use lib.Dec.{eqb, ltb}
 use lib.ListN.{length}
 use Rattle.model.specs.declared.types.Span.{Span}
+use Rattle.model.specs.declared.types.Header.{Header}
 use Rattle.model.specs.Bytes.{le, piece, same-row}
 use Rattle.model.specs.Faults.{fault, Outcome, done, Check, unless, then}
 use Rattle.model.specs.References.{end-of}
-use Rattle.model.specs.Headers.{most, file-type, file-format, Header, header-at}
+use Rattle.model.specs.Headers.{most, file-type, file-format, header-at}
 use Rattle.model.specs.Nodes.{Node, field-of, referring}
 use Rattle.model.specs.Section.{Log, NodeList, Section, flat, list-fragments}
 use Rattle.model.specs.OpenedLog.{overlaps, reading, log-from}

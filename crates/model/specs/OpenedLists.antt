@@ -7,10 +7,10 @@ use mathlib.Core.List.{List, [], _∷_, _++_, map}
 use lib.Dec.{eqb, ltb}
 use lib.ListN.{length}
 use Rattle.model.specs.declared.types.Span.{Span}
+use Rattle.model.specs.declared.types.Header.{Header}
 use Rattle.model.specs.Bytes.{le}
 use Rattle.model.specs.Faults.{fault, Outcome, done, refused, Check, unless, then}
 use Rattle.model.specs.References.{absent, span-at}
-use Rattle.model.specs.Headers.{Header}
 use Rattle.model.specs.Nodes.{Node, node-at, hands-over, bad-node, field-of, referring}
 use Rattle.model.specs.ListFragments.{owner, unmarked, sequence, nodes-from, nodes-to}
 use Rattle.model.specs.Section.{Log, NodeList, count-in, list-fragments}

@@ -6,8 +6,8 @@ use lib.Dec.{eqb}
 use lib.ListN.{take, getD}
 use Rattle.model.specs.declared.types.Span.{Span}
 use Rattle.model.specs.declared.types.Entry.{Entry}
+use Rattle.model.specs.declared.types.Header.{Header}
 use Rattle.model.specs.References.{span}
-use Rattle.model.specs.Headers.{Header}
 use Rattle.model.specs.Nodes.{Node}
 
 -- the finished log: its fragments up to the one with the last finished sentinel, the transactions without their sentinels,

@@ -8,10 +8,10 @@ use Rattle.model.specs.declared.worked.Rule.{Rule}
 use Rattle.model.specs.declared.worked.Rule.the-variants as rule
 use Rattle.model.specs.declared.worked.Worked.{Worked}
 use Rattle.model.specs.declared.types.Span.{Span}
+use Rattle.model.specs.declared.types.Header.{Header}
 use Rattle.model.specs.Bytes.{digits}
 use Rattle.model.specs.Faults.{Outcome, done, refused}
 use Rattle.model.specs.References.{span, share}
-use Rattle.model.specs.Headers.{Header}
 use Rattle.model.specs.Nodes.{id-bits, size-bits, stp-bits, cb-bits, base-bits, top-bit, node-at, hands-over}
 use Rattle.model.specs.ListFragments.{nodes-from, nodes-to}
 use Rattle.model.specs.LogFragments.{entry, entry-bytes, sentinel, entries-in, log-next}

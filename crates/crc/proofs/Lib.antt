@@ -1,0 +1,5 @@
+pub mod Linear
+pub mod Rows
+pub mod Reflected
+pub mod Eight
+pub mod Table

@@ -1,0 +1,3 @@
+pub mod Windows
+pub mod Pairs
+pub mod Heads

@@ -1,0 +1,4 @@
+pub mod Rows
+pub mod CoverRows
+pub mod CardRows
+pub mod CardFacts

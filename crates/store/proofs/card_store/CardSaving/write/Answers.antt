@@ -1,0 +1,45 @@
+use borrow.Author.Needs.{needs}
+use Prim.Native.Nat.{_+_, _*_}
+use mathlib.Core.Path.{_≡_, refl, sym, ap, _∙_}
+use lib.ListN.{getD, set, take, length}
+use native.Mathlib.Omega.{arith}
+use Rattle.std.specs.Of.Vec.{vec-items, vec-len}
+use Rattle.std.proofs.shelf.Edits.{paste-none, paste-more}
+use Rattle.model.specs.Bytes.{written, applied}
+use Rattle.store.specs.Cards.{card-row}
+use Rattle.store.proofs.CardFacts.{row-of, length-bytes, length-row}
+use Rattle.store.proofs.Rows.{pasted-front}
+use Rattle.store.proofs.card_store.CardSaving.write.Needs as need
+
+pub returns-then-p-self : need.returns-then-p-self
+unfolding applied
+returns-then-p-self c = let l = length-bytes (c .args .self .now) in record { row = (search needs, refl, refl); ceiling = refl; trail = (refl, refl) }
+
+pub loop-i-holds : need.loop-i-holds
+loop-i-holds c = (paste-none (row-of (c .args .self .now)) (c .args .place) (c .args .new .now), refl, refl)
+
+pub loop-i-again : need.loop-i-again
+loop-i-again c =
+    let d = c .args .self .now in
+    let n = length-row d in (
+      ap (λ b. card-row (vec-items (c .put .last .self .buffer)) (vec-items b)) (c .put .ensures .blocks)
+          ∙ c .put .ensures .row
+          ∙ ap (λ r. set r (c .args .place + c .loop-i .i) (getD (c .args .new .now) (c .loop-i .i) 0)) (c .loop-i .inv .0)
+          ∙ paste-more (row-of d) (c .args .place) (c .args .new .now) (c .loop-i .i) 0 (omega arith) (omega arith),
+      c .put .ensures .blocks ∙ c .loop-i .inv .1,
+      c .put .ensures .len ∙ c .loop-i .inv .2,
+    )
+
+pub returns : need.returns
+unfolding applied
+returns c =
+    let d = c .args .self .now in
+    let l = length-bytes d in
+    let n = length-row d in
+    let m = c .max-self .ensures in
+    let row = pasted-front (row-of d) _ (d .len) (c .args .place) (c .args .new .now) (c .loop-i .i) (c .max-self .result) (c .loop-i .inv .0) (omega arith) (omega arith) (omega arith) (omega arith) (omega arith) in
+    record {
+      row = (search needs, search needs, row);
+      ceiling = ap (λ b. 512 * vec-len b) (c .loop-i .inv .1);
+      trail = (row, c .loop-i .inv .1);
+    }

@@ -1,0 +1,75 @@
+//! Any store without its first blocks.
+ghost use mathlib.Core.Path.{_≡_};
+ghost use Prim.Native.Nat.{ℕ, _+_, _-_, _*_, _≤_};
+ghost use lib.ListN.{length, drop};
+ghost use Rattle.std.specs.Results.{Cases};
+ghost use Rattle.model.specs.Bytes.{applied};
+ghost use Rattle.model.specs.Faults.{fault};
+ghost use Rattle.store.specs.Refusals.{told};
+ghost use Rattle.store.specs.Covers.{cut-most, shifted};
+use crate::base::NotMade;
+use crate::base::SavingStore;
+use crate::base::Store;
+use crate::base::StoreFault;
+
+#[derive(Drop)]
+pub struct Cover<S> {
+    inner: S,
+    blocks: u64,
+    ghost few: { blocks ≤ 8 },
+}
+
+impl<S: Store> Cover<S> {
+    /// The store without its first 512 × `blocks` bytes, made exactly when there are at most 8 such blocks and the store has them.
+    pub fn new(inner: S, blocks: u64) -> Result<Cover<S>, NotMade<S>>
+        ensures { λ r. ⌜ Cases r (λ v. (blocks ≤ 8) × (512 * blocks ≤ length (S·Store .bytes inner)) × (v .inner ≡ inner) × (v .blocks ≡ blocks)) (λ e. (blocks ≤ 8 → 512 * blocks ≤ length (S·Store .bytes inner) → ⊥) × (e .parts ≡ inner) × (told (e .fault) ≡ fault 29 6 0 0)) ⌝ }
+    {
+        if blocks > 8 || inner.len() < 512 * blocks {
+            return Err(NotMade { parts: inner, fault: StoreFault::Cover });
+        }
+        Ok(Cover { inner, blocks })
+    }
+}
+
+pub impl<S: Store> Store for Cover<S> as CoverStore {
+    ghost bytes = { λ s. drop (512 * s .blocks) (S·Store .bytes (s .inner)) };
+
+    ghost most = { λ s. cut-most (S·Store .bytes (s .inner)) (S·Store .most (s .inner)) (512 * s .blocks) };
+
+    fn len(&self) -> u64 {
+        self.inner.len().saturating_sub(512 * self.blocks)
+    }
+
+    fn ceiling(&self) -> u64 {
+        if self.inner.len() < 512 * self.blocks {
+            return 0;
+        }
+        self.inner.ceiling() - 512 * self.blocks
+    }
+
+    fn read(&self, place: u64, n: usize, buffer: &mut [u8]) -> Result<(), StoreFault> {
+        let skip = 512 * self.blocks;
+        if place > self.inner.len().saturating_sub(skip) || n > buffer.len() {
+            return Err(StoreFault::Range);
+        }
+        if n == 0 {
+            return Ok(());
+        }
+        self.inner.read(skip + place, n, buffer)
+    }
+}
+
+pub impl<S: SavingStore> SavingStore for Cover<S> as CoverSaving {
+    ghost wrote = { λ s ws t. S·SavingStore .wrote (s .inner) (shifted (512 * s .blocks) ws) (t .inner) × (t .blocks ≡ s .blocks) × (drop (512 * t .blocks) (S·Store .bytes (t .inner)) ≡ applied (drop (512 * s .blocks) (S·Store .bytes (s .inner))) ws) × (cut-most (S·Store .bytes (t .inner)) (S·Store .most (t .inner)) (512 * t .blocks) ≡ cut-most (S·Store .bytes (s .inner)) (S·Store .most (s .inner)) (512 * s .blocks)) };
+
+    fn write(&mut self, place: u64, new: &[u8]) -> Result<(), StoreFault> {
+        let skip = 512 * self.blocks;
+        if place > self.inner.len().saturating_sub(skip) {
+            return Err(StoreFault::Range);
+        }
+        if new.is_empty() {
+            return Ok(());
+        }
+        self.inner.write(skip + place, new)
+    }
+}

@@ -1,0 +1,21 @@
+//! Written once, over any store.
+ghost use Rattle.store.specs.Rows.{Echoes};
+use crate::base::SavingStore;
+use crate::base::StoreFault;
+
+/// Writes bytes and reads them back.
+pub fn echo<S: SavingStore>(
+    store: &mut S,
+    place: u64,
+    new: &[u8],
+    buffer: &mut [u8],
+) -> Result<(), StoreFault>
+    ensures { λ r. ⌜ Echoes (S·Store .bytes (now (store .entry))) (S·Store .most (now (store .entry))) place (now (new .entry)) (S·Store .bytes (now (store .exit))) (now (buffer .entry)) (now (buffer .exit)) r ⌝ }
+{
+    let n = new.len();
+    if buffer.len() < n {
+        return Err(StoreFault::Range);
+    }
+    store.write(place, new)?;
+    store.read(place, n, buffer)
+}
