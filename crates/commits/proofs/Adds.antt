@@ -89,7 +89,7 @@ simple-step : (c : List ℕ) (s : Section) (y : Layout) (ls : List NodeList) (id
     → Drafted c s y ls → Addable s y ls new n → y .end < 2 ^ 64 → y .highest < 2 ^ 32 → y .fragments < 2 ^ 32 → member id (map (λ t. t .id) (y .tails)) ≡ true
     → ((p : ℕ) → referring 2 (n p ∷ []) ≡ []) → ((p : ℕ) → holds c (n p) ≡ X)
     → (ms : List NodeList) × Drafted (applied c (with-node y id new .writes)) s (with-node y id new .layout) ms
-      × Grows c y ls (applied c (with-node y id new .writes)) (with-node y id new .layout) ms (λ whose. cond (eqb id whose) (X ∷ []) [])
+    × Grows c y ls (applied c (with-node y id new .writes)) (with-node y id new .layout) ms (λ whose. cond (eqb id whose) (X ∷ []) [])
 simple-step c s y ls id new n X d a x1 x2 x3 k w what =
     let f = found ls id (subst (λ (z : List Tail). member id (map (λ t. t .id) z) ≡ true) (d .laid .tails) k) in
     at-split (f .pre) (f .list) (f .post) (f .split) (f .same) (f .tail′)
@@ -97,6 +97,7 @@ simple-step c s y ls id new n X d a x1 x2 x3 k w what =
     goal : ℕ → Type 0
     goal i = (ms : List NodeList) × Drafted (applied c (with-node y i new .writes)) s (with-node y i new .layout) ms
         × Grows c y ls (applied c (with-node y i new .writes)) (with-node y i new .layout) ms (λ whose. cond (eqb i whose) (X ∷ []) [])
+
     at-split : (pre : List NodeList) (l : NodeList) (post : List NodeList) → ls ≡ pre ++ (l ∷ post) → l .id ≡ id → find-tail (map tail-of ls) id ≡ tail-of l → goal id
     at-split pre l post e i t =
         let d1 : Laid c s y (pre ++ (l ∷ post)) = subst (λ z. Laid c s y z) e (d .laid) in
@@ -110,21 +111,25 @@ simple-step c s y ls id new n X d a x1 x2 x3 k w what =
         let (hd, lg) = carried c (applied c (with-node y (l .id) new .writes)) s (p .kept) (omega arith) (d .head, d .logs) in
         let ms : List NodeList = pre ++ (p .list ∷ post) in
         let ct : Counting s (touch (l .id) (y .touched)) (y .highest) ms = counting-push s (y .touched) (y .highest) pre l (p .list) post (d1 .body .ids-differ) (p .same)
-            (ap length (p .nodes) ∙ length-append (l .nodes) (n (p .place) ∷ [])) (subst (λ z. Counting s (y .touched) (y .highest) z) e (d .counting)) in
-        subst goal i (pre ++ (p .list ∷ post), record {
-          laid = p .laid;
-          counting = subst (λ z. Counting s z (with-node y (l .id) new .layout .highest) ms) (sym (with-node-touched y (l .id) new)) (subst (λ z. Counting s (touch (l .id) (y .touched)) z ms) (sym (with-node-highest y (l .id) new)) ct);
-          later = omega arith;
-          head = hd;
-          logs = lg;
-          tied = tied-header (up-to (s .header) (y .end)) (up-to (s .header) (with-node y (l .id) new .layout .end)) (pre ++ (p .list ∷ post)) refl
-              (tied-push (up-to (s .header) (y .end)) pre l (p .list) post (p .first) (named-none l (p .list) (n (p .place)) (p .nodes) (w (p .place))) t1);
-        }, record {
-          grown = λ x. pushed-holds c s y pre l post new n (with-node y (l .id) new) X x d1 a1 p what
-              ∙ ap (λ (z : List NodeList). map (holds c) (nodes-of z x) ++ cond (eqb (l .id) x) (X ∷ []) []) (sym e);
-          known = λ x h. taken-push pre l (p .list) post x (p .same) ∙ ap (λ (z : List NodeList). taken x z) (sym e);
-          higher = omega (arith, with-node-highest y (l .id) new);
-        })
+        (ap length (p .nodes) ∙ length-append (l .nodes) (n (p .place) ∷ [])) (subst (λ z. Counting s (y .touched) (y .highest) z) e (d .counting)) in
+        subst goal i (
+          pre ++ (p .list ∷ post),
+          record {
+            laid = p .laid;
+            counting = subst (λ z. Counting s z (with-node y (l .id) new .layout .highest) ms) (sym (with-node-touched y (l .id) new)) (subst (λ z. Counting s (touch (l .id) (y .touched)) z ms) (sym (with-node-highest y (l .id) new)) ct);
+            later = omega arith;
+            head = hd;
+            logs = lg;
+            tied = tied-header (up-to (s .header) (y .end)) (up-to (s .header) (with-node y (l .id) new .layout .end)) (pre ++ (p .list ∷ post)) refl
+                (tied-push (up-to (s .header) (y .end)) pre l (p .list) post (p .first) (named-none l (p .list) (n (p .place)) (p .nodes) (w (p .place))) t1);
+          },
+          record {
+            grown = λ x. pushed-holds c s y pre l post new n (with-node y (l .id) new) X x d1 a1 p what
+                ∙ ap (λ (z : List NodeList). map (holds c) (nodes-of z x) ++ cond (eqb (l .id) x) (X ∷ []) []) (sym e);
+            known = λ x h. taken-push pre l (p .list) post x (p .same) ∙ ap (λ (z : List NodeList). taken x z) (sym e);
+            higher = omega (arith, with-node-highest y (l .id) new);
+          },
+        )
 
 -- the lists after an add: still those of a draft, and grown by what it saves
 abbrev pub Stepped : List ℕ → Section → Layout → List NodeList → Add → Type 0
@@ -137,7 +142,7 @@ pub plain-step : (c : List ℕ) (s : Section) (y : Layout) (ls : List NodeList) 
 unfolding planned referring
 plain-step c s y ls list id payload d f i k m =
     simple-step c s y ls list (plain-node id payload) (λ p. plain-of p id payload) (content-of id 0 None payload []) d (record { made = plain-made id payload i k; data-fits = λ p. tt })
-      (omega (arith, f .end)) (f .highest) (omega (arith, f .fragments)) m (λ p. refl) (λ p. plain-holds c p id payload)
+    (omega (arith, f .end)) (f .highest) (omega (arith, f .fragments)) m (λ p. refl) (λ p. plain-holds c p id payload)
 
 -- a node with data, which goes behind the draft's end before it
 pub data-step : (c : List ℕ) (s : Section) (y : Layout) (ls : List NodeList) (list id : ℕ) (payload content : List ℕ) → Drafted c s y ls → Fine y → Fair id → 16 + length payload ≤ 988
@@ -170,17 +175,20 @@ data-step c s y ls list id payload content d f i k o z m =
       tied = tied-header h (up-to (s .header) e) ls refl (d .tied);
     } in
     let far : All (Apart r) (header-span ∷ (gs ++ list-fragments ls))
-        = all-weaker (λ x. end-of x ≤ E) (Apart r) (λ x u i v w. past-apart E r x (omega arith) u i w v) (header-span ∷ (gs ++ list-fragments ls)) (all-by-end c h gs ls (d .laid .body)) in
+    = all-weaker (λ x. end-of x ≤ E) (Apart r) (λ x u i v w. past-apart E r x (omega arith) u i w v) (header-span ∷ (gs ++ list-fragments ls)) (all-by-end c h gs ls (d .laid .body)) in
     let fit : Data-fits e (gs ++ list-fragments ls) r = (omega arith, far) in
     let st : piece (written c E P) E (length content) ≡ content = piece-stored (written c E P) E content (stored-front (written c E P) E content pad (stored-written c E P (d .laid .body .whole))) in
     let (ms, dr, gr) = simple-step (written c E P) s y1 ls list (referring-node id 1 r payload) (λ p. referring-of p id 1 r payload) (content-of id 1 (Some r) payload content) d1
-      (record { made = referring-made id 1 r payload i (omega arith) (omega arith) k (omega arith) (omega arith); data-fits = λ p. one-fits (Data-fits e (gs ++ list-fragments ls)) (referring-of p id 1 r payload) fit })
-      (omega arith) (f .highest) (omega (arith, f .fragments)) m (λ p. refl) (λ p. data-holds (written c E P) p id E payload content o st) in
-    (ms, dr, record {
-      grown = λ x. gr .grown x ∙ ap (λ (z : List Content). z ++ cond (eqb list x) (content-of id 1 (Some r) payload content ∷ []) []) (longer-held c s y ls P x (d .laid));
-      known = gr .known;
-      higher = gr .higher;
-    })
+    (record { made = referring-made id 1 r payload i (omega arith) (omega arith) k (omega arith) (omega arith); data-fits = λ p. one-fits (Data-fits e (gs ++ list-fragments ls)) (referring-of p id 1 r payload) fit })
+    (omega arith) (f .highest) (omega (arith, f .fragments)) m (λ p. refl) (λ p. data-holds (written c E P) p id E payload content o st) in (
+      ms,
+      dr,
+      record {
+        grown = λ x. gr .grown x ∙ ap (λ (z : List Content). z ++ cond (eqb list x) (content-of id 1 (Some r) payload content ∷ []) []) (longer-held c s y ls P x (d .laid));
+        known = gr .known;
+        higher = gr .higher;
+      },
+    )
   where
     one-fits : (Q : Span → Type 0) (n : Node) → Q (n .reference) → All Q (references (n ∷ []))
     one-fits Q n q = elim (cases-bool (eqb (n .base) 1 && present (n .reference))) [
@@ -201,11 +209,11 @@ find-left id (t ∷ ts) us e = elim (cases-bool (eqb (t .id) id)) [
 with-list-laid : (c : List ℕ) (s : Section) (y : Layout) (ls : List NodeList) (list first-id : ℕ) (first : List ℕ) → Laid c s y ls → Fine y → Fair first-id → 4 + length first ≤ 988
     → 16 ≤ y .highest → y .highest + 1 < 2 ^ 32
     → let node = plain-node first-id first in
-      let nf = new-fragment (y .highest + 1) 0 node in
-      let piece = at-end y nf in
-      Laid (written c (y .end) (piece .new)) s
-        (more-lists list (tail (y .highest + 1) (span (y .end) 1024) 0 (y .end + 16 + length node) 1) (more-fragments (ending-at (behind piece) y)))
-        (ls ++ (new-list (y .highest + 1) (y .end) (plain-of (y .end + 16) first-id first) (y .end + 16 + length node) ∷ []))
+    let nf = new-fragment (y .highest + 1) 0 node in
+    let piece = at-end y nf in
+    Laid (written c (y .end) (piece .new)) s
+    (more-lists list (tail (y .highest + 1) (span (y .end) 1024) 0 (y .end + 16 + length node) 1) (more-fragments (ending-at (behind piece) y)))
+    (ls ++ (new-list (y .highest + 1) (y .end) (plain-of (y .end + 16) first-id first) (y .end + 16 + length node) ∷ []))
 unfolding referring
 with-list-laid c s y ls list first-id first d f i k u v =
     let E = y .end in
@@ -221,7 +229,7 @@ with-list-laid c s y ls list first-id first d f i k u v =
     let e : ℕ = E + length (nf ++ pad) in
     let lp : length (nf ++ pad) ≡ length nf + length pad = length-append nf pad in
     let q1 : length (gs ++ list-fragments (ls ++ (l ∷ []))) ≡ length (gs ++ list-fragments ls) + 1
-        = ap (λ z. length (gs ++ z)) (flat-append (λ (m : NodeList). m .fragments) ls (l ∷ [])) ∙ ap length (sym (append-assoc gs (list-fragments ls) (span E 1024 ∷ []))) ∙ length-append (gs ++ list-fragments ls) (span E 1024 ∷ []) in
+    = ap (λ z. length (gs ++ z)) (flat-append (λ (m : NodeList). m .fragments) ls (l ∷ [])) ∙ ap length (sym (append-assoc gs (list-fragments ls) (span E 1024 ∷ []))) ∙ length-append (gs ++ list-fragments ls) (span E 1024 ∷ []) in
     let df = d .fragments in
     let dl = d .lists in
     let q2 = length-append ls (l ∷ []) in
@@ -245,29 +253,41 @@ branch-step c s y ls list id payload first-id first d f i k j l0 v m =
   where
     E : ℕ
     E = y .end
+
     fresh : Span
     fresh = span E 1024
+
     node : List ℕ
     node = plain-node first-id first
+
     new : List ℕ
     new = referring-node id 2 fresh payload
+
     nf : List ℕ
     nf = new-fragment (y .highest + 1) 0 node
+
     pad : List ℕ
     pad = replicate ((8 - (E + length nf) % 8) % 8) 0
+
     y1 : ℕ → Layout
     y1 x = more-lists x (tail (y .highest + 1) fresh 0 (E + 16 + length node) 1) (more-fragments (ending-at (E + length (nf ++ pad)) y))
+
     c1 : List ℕ
     c1 = written c E (nf ++ pad)
+
     l2 : NodeList
     l2 = new-list (y .highest + 1) E (plain-of (E + 16) first-id first) (E + 16 + length node)
+
     X : Content
     X = content-of id 2 (Some fresh) payload []
+
     Y : Content
     Y = content-of first-id 0 None first []
+
     goal : ℕ → Type 0
     goal x = (ms : List NodeList) × Drafted (applied c1 (with-node (y1 x) x new .writes)) s (with-node (y1 x) x new .layout) ms
         × Grows c y ls (applied c1 (with-node (y1 x) x new .writes)) (with-node (y1 x) x new .layout) ms (λ whose. cond (eqb x whose) (X ∷ []) (cond (eqb (y .highest + 1) whose) (Y ∷ []) []))
+
     at-split : (pre : List NodeList) (l : NodeList) (post : List NodeList) → ls ≡ pre ++ (l ∷ post) → l .id ≡ list → find-tail (map tail-of ls) list ≡ tail-of l → goal list
     at-split pre l post e q t =
         let h : Header = up-to (s .header) E in
@@ -280,10 +300,10 @@ branch-step c s y ls list id payload first-id first d f i k j l0 v m =
         let d1 : Laid c1 s (y1 (l .id)) ((pre ++ (l ∷ post)) ++ (l2 ∷ [])) = with-list-laid c s y (pre ++ (l ∷ post)) (l .id) first-id first d0 f j l0 (omega arith) v in
         let d2 : Laid c1 s (y1 (l .id)) (pre ++ (l ∷ (post ++ (l2 ∷ [])))) = subst (λ z. Laid c1 s (y1 (l .id)) z) (append-assoc pre (l ∷ post) (l2 ∷ [])) d1 in
         let a2 : Addable s (y1 (l .id)) (pre ++ (l ∷ (post ++ (l2 ∷ [])))) new (λ p. referring-of p id 2 fresh payload)
-            = record { made = referring-made id 2 fresh payload i (omega arith) (omega arith) k (omega (arith, f .end)) (omega arith); data-fits = λ p. tt } in
+        = record { made = referring-made id 2 fresh payload i (omega arith) (omega arith) k (omega (arith, f .end)) (omega arith); data-fits = λ p. tt } in
         let t1 : find-tail (y1 (l .id) .tails) (l .id) ≡ tail-of l
-            = find-left (l .id) (y .tails) (tail (y .highest + 1) fresh 0 (E + 16 + length node) 1 ∷ []) (subst (λ z. member z (map (λ t. t .id) (y .tails)) ≡ true) (sym q) m)
-            ∙ ap (λ z. find-tail (y .tails) z) q ∙ ap (λ z. find-tail z list) (d .laid .tails) ∙ t in
+        = find-left (l .id) (y .tails) (tail (y .highest + 1) fresh 0 (E + 16 + length node) 1 ∷ []) (subst (λ z. member z (map (λ t. t .id) (y .tails)) ≡ true) (sym q) m)
+        ∙ ap (λ z. find-tail (y .tails) z) q ∙ ap (λ z. find-tail z list) (d .laid .tails) ∙ t in
         let ln : length nf ≡ 1024 = length-new-fragment (y .highest + 1) 0 node (plain-made first-id first j l0 .short) in
         let lp : length (nf ++ pad) ≡ length nf + length pad = length-append nf pad in
         let lq : length pad ≡ (8 - (E + length nf) % 8) % 8 = length-replicate ((8 - (E + length nf) % 8) % 8) 0 in
@@ -292,7 +312,7 @@ branch-step c s y ls list id payload first-id first d f i k j l0 v m =
         let p = node-pushed c1 s (y1 (l .id)) pre l (post ++ (l2 ∷ [])) new (λ p. referring-of p id 2 fresh payload) d2 a2 (omega arith) v (omega arith) t1 in
         let n : Node = referring-of (p .place) id 2 fresh payload in
         let t2 : Tied h ((pre ++ (p .list ∷ post)) ++ (l2 ∷ []))
-            = tied-branch h pre l (p .list) post l2 (field-of n, fresh) (p .first) (named-push l (p .list) n (p .nodes)) refl refl t0 in
+        = tied-branch h pre l (p .list) post l2 (field-of n, fresh) (p .first) (named-push l (p .list) n (p .nodes)) refl refl t0 in
         let t3 : Tied h (pre ++ (p .list ∷ (post ++ (l2 ∷ [])))) = subst (λ z. Tied h z) (append-assoc pre (p .list ∷ post) (l2 ∷ [])) t2 in
         let ri = p .rises in
         let la = d .later in
@@ -301,34 +321,38 @@ branch-step c s y ls list id payload first-id first d f i k j l0 v m =
         let kp : All (Kept c c1) (header-span ∷ s .log .fragments) = past-kept c E (nf ++ pad) (header-span ∷ s .log .fragments) (d0 .body .whole) (d0 .body .least, d0 .body .log-inside) in
         let hl : Headed c1 (s .header) × Logs c1 (s .header) (s .log) = carried c c1 s kp (omega arith) (d .head, d .logs) in
         let hl2 : Headed (applied c1 (with-node (y1 (l .id)) (l .id) new .writes)) (s .header) × Logs (applied c1 (with-node (y1 (l .id)) (l .id) new .writes)) (s .header) (s .log)
-            = carried c1 (applied c1 (with-node (y1 (l .id)) (l .id) new .writes)) s (p .kept) (omega arith) hl in
+        = carried c1 (applied c1 (with-node (y1 (l .id)) (l .id) new .writes)) s (p .kept) (omega arith) hl in
         let ms : List NodeList = pre ++ (p .list ∷ (post ++ (l2 ∷ []))) in
         let T : List ℕ = touch (l .id) (y .touched) in
         let ct : Counting s T (y .highest) (pre ++ (p .list ∷ post)) = counting-push s (y .touched) (y .highest) pre l (p .list) post (d0 .body .ids-differ) (p .same)
-            (ap length (p .nodes) ∙ length-append (l .nodes) (n ∷ [])) (subst (λ z. Counting s (y .touched) (y .highest) z) e (d .counting)) in
+        (ap length (p .nodes) ∙ length-append (l .nodes) (n ∷ [])) (subst (λ z. Counting s (y .touched) (y .highest) z) e (d .counting)) in
         let kn : All (λ m. m .id ≤ y .highest) (pre ++ (p .list ∷ post)) = all-append (λ m. m .id ≤ y .highest) pre (p .list ∷ post) u0 (subst (λ z. z ≤ y .highest) (sym (p .same)) top, u1 .1) in
         let ct2 : Counting s (touch (y .highest + 1) T) (y .highest + 1) ms
-            = subst (λ z. Counting s (touch (y .highest + 1) T) (y .highest + 1) z) (append-assoc pre (p .list ∷ post) (l2 ∷ [])) (counting-list s T (y .highest) (pre ++ (p .list ∷ post)) l2 kn refl refl ct) in
+        = subst (λ z. Counting s (touch (y .highest + 1) T) (y .highest + 1) z) (append-assoc pre (p .list ∷ post) (l2 ∷ [])) (counting-list s T (y .highest) (pre ++ (p .list ∷ post)) l2 kn refl refl ct) in
         let tq : with-node (y1 (l .id)) (l .id) new .layout .touched ≡ touch (y .highest + 1) T
-            = with-node-touched (y1 (l .id)) (l .id) new ∙ touch-again (l .id) (touch (y .highest + 1) T) (touch-other (l .id) (y .highest + 1) T (λ z. omega arith) ∙ touch-same (l .id) (y .touched)) in
-        subst goal q (pre ++ (p .list ∷ (post ++ (l2 ∷ []))), record {
-          laid = p .laid;
-          counting = subst (λ z. Counting s z (with-node (y1 (l .id)) (l .id) new .layout .highest) ms) (sym tq) (subst (λ z. Counting s (touch (y .highest + 1) T) z ms) (sym (with-node-highest (y1 (l .id)) (l .id) new)) ct2);
-          later = omega arith;
-          head = hl2 .0;
-          logs = hl2 .1;
-          tied = tied-header h (up-to (s .header) (with-node (y1 (l .id)) (l .id) new .layout .end)) (pre ++ (p .list ∷ (post ++ (l2 ∷ [])))) refl t3;
-        }, record {
-          grown = λ x.
-              let A : List Content = map (holds c) (nodes-of ls x) in
-              let g1 = pushed-holds c1 s (y1 (l .id)) pre l (post ++ (l2 ∷ [])) new (λ p. referring-of p id 2 fresh payload) (with-node (y1 (l .id)) (l .id) new) X x d2 a2 p (λ z. branch-holds c1 z id E payload) in
-              let g2 : map (holds c1) (nodes-of (pre ++ (l ∷ (post ++ (l2 ∷ [])))) x) ≡ A ++ cond (eqb (y .highest + 1) x) (Y ∷ []) []
-                  = ap (λ (z : List NodeList). map (holds c1) (nodes-of z x)) (sym (append-assoc pre (l ∷ post) (l2 ∷ [])))
-                  ∙ list-holds c c1 (pre ++ (l ∷ post)) l2 Y x (all-weaker (λ m. m .id ≤ y .highest) (λ m. m .id ≢ y .highest + 1) (λ m z w. omega arith) (pre ++ (l ∷ post)) (d0 .known))
-                    (ap (λ (z : Content). z ∷ []) (plain-holds c1 (E + 16) first-id first)) (longer-held c s y (pre ++ (l ∷ post)) (nf ++ pad) x d0)
-                  ∙ ap (λ (z : List NodeList). map (holds c) (nodes-of z x) ++ cond (eqb (y .highest + 1) x) (Y ∷ []) []) (sym e) in
-              g1 ∙ ap (λ (z : List Content). z ++ cond (eqb (l .id) x) (X ∷ []) []) g2 ∙ either-sum A X Y (l .id) (y .highest + 1) x (omega arith);
-          known = λ x h. taken-push pre l (p .list) (post ++ (l2 ∷ [])) x (p .same) ∙ ap (λ (z : List NodeList). taken x z) (sym (append-assoc pre (l ∷ post) (l2 ∷ [])))
-              ∙ taken-list (pre ++ (l ∷ post)) l2 x (omega arith) ∙ ap (λ (z : List NodeList). taken x z) (sym e);
-          higher = omega (arith, with-node-highest (y1 (l .id)) (l .id) new);
-        })
+        = with-node-touched (y1 (l .id)) (l .id) new ∙ touch-again (l .id) (touch (y .highest + 1) T) (touch-other (l .id) (y .highest + 1) T (λ z. omega arith) ∙ touch-same (l .id) (y .touched)) in
+        subst goal q (
+          pre ++ (p .list ∷ (post ++ (l2 ∷ []))),
+          record {
+            laid = p .laid;
+            counting = subst (λ z. Counting s z (with-node (y1 (l .id)) (l .id) new .layout .highest) ms) (sym tq) (subst (λ z. Counting s (touch (y .highest + 1) T) z ms) (sym (with-node-highest (y1 (l .id)) (l .id) new)) ct2);
+            later = omega arith;
+            head = hl2 .0;
+            logs = hl2 .1;
+            tied = tied-header h (up-to (s .header) (with-node (y1 (l .id)) (l .id) new .layout .end)) (pre ++ (p .list ∷ (post ++ (l2 ∷ [])))) refl t3;
+          },
+          record {
+            grown = λ x.
+                let A : List Content = map (holds c) (nodes-of ls x) in
+                let g1 = pushed-holds c1 s (y1 (l .id)) pre l (post ++ (l2 ∷ [])) new (λ p. referring-of p id 2 fresh payload) (with-node (y1 (l .id)) (l .id) new) X x d2 a2 p (λ z. branch-holds c1 z id E payload) in
+                let g2 : map (holds c1) (nodes-of (pre ++ (l ∷ (post ++ (l2 ∷ [])))) x) ≡ A ++ cond (eqb (y .highest + 1) x) (Y ∷ []) []
+                = ap (λ (z : List NodeList). map (holds c1) (nodes-of z x)) (sym (append-assoc pre (l ∷ post) (l2 ∷ [])))
+                ∙ list-holds c c1 (pre ++ (l ∷ post)) l2 Y x (all-weaker (λ m. m .id ≤ y .highest) (λ m. m .id ≢ y .highest + 1) (λ m z w. omega arith) (pre ++ (l ∷ post)) (d0 .known))
+                (ap (λ (z : Content). z ∷ []) (plain-holds c1 (E + 16) first-id first)) (longer-held c s y (pre ++ (l ∷ post)) (nf ++ pad) x d0)
+                ∙ ap (λ (z : List NodeList). map (holds c) (nodes-of z x) ++ cond (eqb (y .highest + 1) x) (Y ∷ []) []) (sym e) in
+                g1 ∙ ap (λ (z : List Content). z ++ cond (eqb (l .id) x) (X ∷ []) []) g2 ∙ either-sum A X Y (l .id) (y .highest + 1) x (omega arith);
+            known = λ x h. taken-push pre l (p .list) (post ++ (l2 ∷ [])) x (p .same) ∙ ap (λ (z : List NodeList). taken x z) (sym (append-assoc pre (l ∷ post) (l2 ∷ [])))
+                ∙ taken-list (pre ++ (l ∷ post)) l2 x (omega arith) ∙ ap (λ (z : List NodeList). taken x z) (sym e);
+            higher = omega (arith, with-node-highest (y1 (l .id)) (l .id) new);
+          },
+        )

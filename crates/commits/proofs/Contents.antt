@@ -44,14 +44,14 @@ nodes-held b c [] a = refl
 nodes-held b c (n ∷ ns) a = elim (cases-bool (eqb (n .base) 1 && present (n .reference))) [
   | inl e ↦
       let (p, r) : Data-same b c (n .reference) × All (Data-same b c) (references ns)
-          = subst (λ (z : List Node). All (Data-same b c) (map (λ n. n .reference) z)) (ap (λ z. cond z (n ∷ referring 1 ns) (referring 1 ns)) e) a in
+      = subst (λ (z : List Node). All (Data-same b c) (map (λ n. n .reference) z)) (ap (λ z. cond z (n ∷ referring 1 ns) (referring 1 ns)) e) a in
       let q : piece b (n .reference .start) (n .reference .size) ≡ piece c (n .reference .start) (n .reference .size)
-          = piece-in b c (n .reference .start) (end-of (n .reference)) (n .reference .start) (n .reference .size) (p .2) (p .0) (p .1) (omega arith) (omega arith) in
+      = piece-in b c (n .reference .start) (end-of (n .reference)) (n .reference .start) (n .reference .size) (p .2) (p .0) (p .1) (omega arith) (omega arith) in
       let u : holds c n ≡ holds b n = same-holds b c n (n .reference) (ap (λ z. cond z (n .reference) (span 0 0)) e) q in
       cc (u, nodes-held b c ns r)
   | inr e ↦
       let r : All (Data-same b c) (references ns)
-          = subst (λ (z : List Node). All (Data-same b c) (map (λ n. n .reference) z)) (ap (λ z. cond z (n ∷ referring 1 ns) (referring 1 ns)) e) a in
+      = subst (λ (z : List Node). All (Data-same b c) (map (λ n. n .reference) z)) (ap (λ z. cond z (n ∷ referring 1 ns) (referring 1 ns)) e) a in
       let u : holds c n ≡ holds b n = same-holds b c n (span 0 0) (ap (λ z. cond z (n .reference) (span 0 0)) e) refl in
       cc (u, nodes-held b c ns r)
 ]

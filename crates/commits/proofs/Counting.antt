@@ -90,16 +90,16 @@ counts-push ts ids pre l l′ post d e n a =
     let c = counts-most ts ids l (a1 .0) in
     let own : Counts ts (touch (l .id) ids) l′ = inl (ap (λ z. member z (touch (l .id) ids)) e ∙ touch-same (l .id) ids, subst (λ z. count-in ts z < length (l′ .nodes)) (sym e) (omega arith)) in
     all-append (Counts ts (touch (l .id) ids)) pre (l′ ∷ post)
-      (all-both (λ m. All (λ k. m .id ≢ k .id) (l ∷ post)) (Counts ts ids) (Counts ts (touch (l .id) ids)) pre (λ m u v. counts-other ts (l .id) ids m (u .0) v) d2 a0)
-      (own, all-both (λ m. l .id ≢ m .id) (Counts ts ids) (Counts ts (touch (l .id) ids)) post (λ m u v. counts-other ts (l .id) ids m (λ z. u (sym z)) v) (d1 .0) (a1 .1))
+    (all-both (λ m. All (λ k. m .id ≢ k .id) (l ∷ post)) (Counts ts ids) (Counts ts (touch (l .id) ids)) pre (λ m u v. counts-other ts (l .id) ids m (u .0) v) d2 a0)
+    (own, all-both (λ m. l .id ≢ m .id) (Counts ts ids) (Counts ts (touch (l .id) ids)) post (λ m u v. counts-other ts (l .id) ids m (λ z. u (sym z)) v) (d1 .0) (a1 .1))
 
 -- a new list comes
 pub counts-list : (ts : List (List Entry)) (ids : List ℕ) (ls : List NodeList) (l : NodeList) → All (λ m. m .id ≢ l .id) ls → count-in ts (l .id) < length (l .nodes) → All (Counts ts ids) ls
     → All (Counts ts (touch (l .id) ids)) (ls ++ (l ∷ []))
 counts-list ts ids ls l d n a =
     all-append (Counts ts (touch (l .id) ids)) ls (l ∷ [])
-      (all-both (λ m. m .id ≢ l .id) (Counts ts ids) (Counts ts (touch (l .id) ids)) ls (λ m u v. counts-other ts (l .id) ids m u v) d a)
-      (inl (touch-same (l .id) ids, n), tt)
+    (all-both (λ m. m .id ≢ l .id) (Counts ts ids) (Counts ts (touch (l .id) ids)) ls (λ m u v. counts-other ts (l .id) ids m u v) d a)
+    (inl (touch-same (l .id) ids, n), tt)
 
 -- the entries of a commit ------------------------------------------------------------------------------------------------
 
@@ -152,10 +152,12 @@ latest-other id before e n =
 -- entries of distinct lists, each above the list's last
 pub rising-entries : (before : List Entry) (count : ℕ → ℕ) (ids : List ℕ) → Pairwise (λ x y. x ≢ y) ids → All (λ id. latest id 0 before < count id) ids → Rising before (entries-for count ids)
 rising-entries before count [] p a = tt
-rising-entries before count (x ∷ ids) (p, ps) (a, as′) =
-    (a, rising-entries (before ++ (entry x (count x) ∷ [])) count ids ps
+rising-entries before count (x ∷ ids) (p, ps) (a, as′) = (
+  a,
+  rising-entries (before ++ (entry x (count x) ∷ [])) count ids ps
       (all-both (λ y. x ≢ y) (λ y. latest y 0 before < count y) (λ y. latest y 0 (before ++ (entry x (count x) ∷ [])) < count y) ids
-      (λ y n l. subst (λ z. z < count y) (sym (latest-other y before (entry x (count x)) n)) l) p as′))
+      (λ y n l. subst (λ z. z < count y) (sym (latest-other y before (entry x (count x)) n)) l) p as′),
+)
 
 pub counts-lists : (count : ℕ → ℕ) (ids : List ℕ) → All (λ id. 16 ≤ id) ids → Counts-lists (entries-for count ids)
 counts-lists count [] a = tt

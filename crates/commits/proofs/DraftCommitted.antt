@@ -49,11 +49,13 @@ unfolding find-tail
 tails-count [] p = tt
 tails-count (m ∷ ls) (p, ps) =
     let q : eqb (m .id) (m .id) ≡ true = grind (arith, tells) in
-    let own : find-tail (map tail-of (m ∷ ls)) (m .id) .count ≡ length (m .nodes) = ap (λ z. cond z (tail-of m) (find-tail (map tail-of ls) (m .id)) .count) q in
-    (own, all-both (λ l. m .id ≢ l .id) (λ l. find-tail (map tail-of ls) (l .id) .count ≡ length (l .nodes)) (λ l. find-tail (map tail-of (m ∷ ls)) (l .id) .count ≡ length (l .nodes)) ls
-      (λ l n e.
-        let f = ne-eqb (m .id) (l .id) n in
-        ap (λ z. cond z (tail-of m) (find-tail (map tail-of ls) (l .id)) .count) f ∙ e) p (tails-count ls ps))
+    let own : find-tail (map tail-of (m ∷ ls)) (m .id) .count ≡ length (m .nodes) = ap (λ z. cond z (tail-of m) (find-tail (map tail-of ls) (m .id)) .count) q in (
+      own,
+      all-both (λ l. m .id ≢ l .id) (λ l. find-tail (map tail-of ls) (l .id) .count ≡ length (l .nodes)) (λ l. find-tail (map tail-of (m ∷ ls)) (l .id) .count ≡ length (l .nodes)) ls
+          (λ l n e.
+          let f = ne-eqb (m .id) (l .id) n in
+          ap (λ z. cond z (tail-of m) (find-tail (map tail-of ls) (l .id)) .count) f ∙ e) p (tails-count ls ps),
+    )
 
 -- what holds of each list's ID holds of an ID among them
 from-member : (P : ℕ → Type 0) (id : ℕ) (ls : List NodeList) → member id (map (λ l. l .id) ls) ≡ true → All (λ l. P (l .id)) ls → P id
@@ -66,11 +68,13 @@ from-member P id (l ∷ ls) e (p, a) = elim (cases-bool (eqb (l .id) id)) [
 member-self : (ids : List ℕ) → All (λ x. member x ids ≡ true) ids
 member-self [] = tt
 member-self (x ∷ ids) =
-    let q : eqb x x ≡ true = grind (arith, tells) in
-    (rw q, all-weaker (λ y. member y ids ≡ true) (λ y. member y (x ∷ ids) ≡ true) (λ y e. elim (cases-bool (eqb x y)) [
-      | inl z ↦ rw z
-      | inr z ↦ rw z e
-    ]) ids (member-self ids))
+    let q : eqb x x ≡ true = grind (arith, tells) in (
+      rw q,
+      all-weaker (λ y. member y ids ≡ true) (λ y. member y (x ∷ ids) ≡ true) (λ y e. elim (cases-bool (eqb x y)) [
+        | inl z ↦ rw z
+        | inr z ↦ rw z e
+      ]) ids (member-self ids),
+    )
 
 -- the draft's transaction follows, and each list then has its count
 pub draft-follows : (c : List ℕ) (s : Section) (y : Layout) (ls : List NodeList) → Drafted c s y ls
@@ -81,12 +85,12 @@ draft-follows c s y ls d =
     let count : ℕ → ℕ = λ id. find-tail (y .tails) id .count in
     let k = d .counting in
     let each : All (λ l. count (l .id) ≡ length (l .nodes)) ls
-        = subst (λ (z : List Tail). All (λ l. find-tail z (l .id) .count ≡ length (l .nodes)) ls) (sym (d .laid .tails)) (tails-count ls (d .laid .body .ids-differ)) in
+    = subst (λ (z : List Tail). All (λ l. find-tail z (l .id) .count ≡ length (l .nodes)) ls) (sym (d .laid .tails)) (tails-count ls (d .laid .body .ids-differ)) in
     let rise : All (λ l. member (l .id) T ≡ true → count-in ts (l .id) < count (l .id)) ls
-        = all-both (Counts ts T) (λ l. count (l .id) ≡ length (l .nodes)) (λ l. member (l .id) T ≡ true → count-in ts (l .id) < count (l .id)) ls (λ l u v w. above ts T count l u v w) (k .counts) each in
+    = all-both (Counts ts T) (λ l. count (l .id) ≡ length (l .nodes)) (λ l. member (l .id) T ≡ true → count-in ts (l .id) < count (l .id)) ls (λ l u v w. above ts T count l u v w) (k .counts) each in
     let up : All (λ id. count-in ts id < count id) T
-        = all-both (λ id. member id (map (λ l. l .id) ls) ≡ true) (λ id. member id T ≡ true) (λ id. count-in ts id < count id) T
-          (λ id u v. from-member (λ x. member x T ≡ true → count-in ts x < count x) id ls u rise v) (k .known) (member-self T) in
+    = all-both (λ id. member id (map (λ l. l .id) ls) ≡ true) (λ id. member id T ≡ true) (λ id. count-in ts id < count id) T
+    (λ id u v. from-member (λ x. member x T ≡ true → count-in ts x < count x) id ls u rise v) (k .known) (member-self T) in
     let real : All (λ id. 16 ≤ id) T = all-weaker (λ id. member id (map (λ l. l .id) ls) ≡ true) (λ id. 16 ≤ id) (λ id u. from-member (λ x. 16 ≤ x) id ls u (all-weaker (Right c (up-to (s .header) (y .end))) (λ l. 16 ≤ l .id) (λ l r. r .part .real) ls (d .laid .body .lists))) T (k .known) in
     (record { lists = counts-lists count T real; rising = rising-entries (flat ts) count T (k .once) up }, counted-after ts T count ls (k .counts) each)
   where
@@ -129,8 +133,10 @@ commit-bounds ceiling s adds guid h c =
   where
     numbers : (m n : ℕ) → leb (2 ^ 32) m || leb (2 ^ 64) n ≡ false → (m < 2 ^ 32) × (n < 2 ^ 64)
     numbers m n e = (grind (arith, tells), grind (arith, tells))
+
     few : (n : ℕ) → ltb 2048 n ≡ false → n ≤ 2048
     few n e = grind (arith, tells)
+
     below : (old ceiling end : ℕ) → old ≤ 2 ^ 40 → past-ceiling old ceiling end ≡ false → end ≤ 2 ^ 40
     below old ceiling end h e = grind (arith, tells)
 
@@ -170,10 +176,10 @@ commit-done c ceiling s adds ls guid d f g k =
     let q : applied c (logged s y .writes ++ (header-write c (s .header) end guid ∷ [])) ≡ c2 = applied-row c (logged s y .writes) (header-write c (s .header) end guid ∷ []) ∙ ap (λ (z : Write). applied c1 (z ∷ [])) hw in
     let (e2, r2) = head-rest c1 (s .header) end guid (a1 .whole) g in
     let M = commit-head c1 s (L .log) ls end guid a1 g (n .count) (n .generation) (n .end) (L .logs) (L .body) (tied-header (up-to (s .header) (y .end)) H ls refl (d .tied))
-        (subst (λ (z : List (List Entry)). All (λ l. length (l .nodes) ≡ count-in z (l .id)) ls) (sym (L .transactions)) counted) (omega (arith, d .laid .lists, f .lists)) (L .few) in
+    (subst (λ (z : List (List Entry)). All (λ l. length (l .nodes) ≡ count-in z (l .id)) ls) (sym (L .transactions)) counted) (omega (arith, d .laid .lists, f .lists)) (L .few) in
     let far : All (λ r. Apart (L .last) r × Apart header-span r) (data-spans ls)
-        = all-both (Apart (L .last)) (λ r. All (Apart r) (header-span ∷ (gs ++ lf))) (λ r. Apart (L .last) r × Apart header-span r) (data-spans ls) (λ r u v. (u, λ i x z. v .0 i z x)) (L .data-apart) (d .laid .body .data-apart) in
+    = all-both (Apart (L .last)) (λ r. All (Apart r) (header-span ∷ (gs ++ lf))) (λ r. Apart (L .last) r × Apart header-span r) (data-spans ls) (λ r u v. (u, λ i x z. v .0 i z x)) (L .data-apart) (d .laid .body .data-apart) in
     let D : All (Data-same c c2) (data-spans ls)
-        = all-both (λ r. end-of r ≤ y .end) (λ r. Apart (L .last) r × Apart header-span r) (Data-same c c2) (data-spans ls)
-          (λ r u v. (omega arith, omega arith, λ i x z. other-same c c1 (y .end) (L .last) (L .place) 0 0 B r (v .0) u i x z ∙ head-kept c1 c2 r r2 (v .1) i x z)) (d .laid .body .data-inside) far in
+    = all-both (λ r. end-of r ≤ y .end) (λ r. Apart (L .last) r × Apart header-span r) (Data-same c c2) (data-spans ls)
+    (λ r u v. (omega arith, omega arith, λ i x z. other-same c c1 (y .end) (L .last) (L .place) 0 0 B r (v .0) u i x z ∙ head-kept c1 c2 r r2 (v .1) i x z)) (d .laid .body .data-inside) far in
     subst (λ (z : List ℕ). Committed c z s y ls guid) (sym q) (record { log = L .log; transactions = L .transactions; means = M; data-same = D })

@@ -131,12 +131,16 @@ adds-drafted c ceiling s y ls (a ∷ more) d f (u, v, w) =
     let up = x .2 .higher in
     let up′ = r .higher in
     subst (λ (z : List ℕ). (ms : List NodeList) × Drafted z s (laid y1 more) ms × Grows c y ls z (laid y1 more) ms (λ id. saved-by y a id ++ saved y1 more id) × Fine (laid y1 more))
-      (sym (applied-row c (planned y a .writes) (add-writes y1 more)))
-      (ms, e, record {
+    (sym (applied-row c (planned y a .writes) (add-writes y1 more))) (
+      ms,
+      e,
+      record {
         grown = λ id. r .grown id ∙ ap (λ (z : List Content). z ++ saved y1 more id) (x .2 .grown id) ∙ append-assoc (map (holds c) (nodes-of ls id)) (saved-by y a id) (saved y1 more id);
         known = λ id k. r .known id (omega arith) ∙ x .2 .known id k;
         higher = omega arith;
-      }, h)
+      },
+      h,
+    )
 
 -- the start
 greatest-all : (ls : List NodeList) (n : ℕ) → All (λ l. l .id ≤ max n (greatest (map (λ m. m .id) ls))) ls
@@ -159,6 +163,7 @@ blank-counting b s m = record {
 
 pub blank-drafted : (b : List ℕ) (s : Section) → Bytes b → Means b s → Drafted b s (blank s) (s .lists) × Fine (blank s)
 blank-drafted b s a m =
-    let (d, t) = body-means b s m in
-    (record { laid = record { body = d; tails = refl; lists = refl; fragments = refl; known = greatest-all (s .lists) _ }; tied = t; later = omega arith; head = m .header; logs = m .log; counting = blank-counting b s m },
-    record { end = m .header .most; highest = blank-highest b s a m; fragments = m .few-fragments; lists = m .few-lists; touched = omega arith; counts = blank-counts b s a m })
+    let (d, t) = body-means b s m in (
+      record { laid = record { body = d; tails = refl; lists = refl; fragments = refl; known = greatest-all (s .lists) _ }; tied = t; later = omega arith; head = m .header; logs = m .log; counting = blank-counting b s m },
+      record { end = m .header .most; highest = blank-highest b s a m; fragments = m .few-fragments; lists = m .few-lists; touched = omega arith; counts = blank-counts b s a m },
+    )

@@ -119,7 +119,7 @@ unfolding applied
 pushed-fits c s y pre l post new n d a k =
     let l′ : NodeList = with-one l (n (l .free)) (l .free + length new) in
     let t : tail-of l′ ≡ tail (l .id) (last-fragment (l .fragments)) (length (l .fragments) - 1) (l .free + length new) (length (l .nodes) + 1)
-        = ap (λ z. tail (l .id) (last-fragment (l .fragments)) (length (l .fragments) - 1) (l .free + length new) z) (length-append (l .nodes) (n (l .free) ∷ [])) in
+    = ap (λ z. tail (l .id) (last-fragment (l .fragments)) (length (l .fragments) - 1) (l .free + length new) z) (length-append (l .nodes) (n (l .free) ∷ [])) in
     let e : list-fragments (pre ++ (l′ ∷ post)) ≡ list-fragments (pre ++ (l ∷ post)) = flat-instead (λ (m : NodeList). m .fragments) pre l l′ post refl in
     let (u, v) = all-front (λ m. m .id ≤ y .highest) pre (l ∷ post) (d .known) in
     let bd = body-fits c (up-to (s .header) (y .end)) (s .log .fragments) pre l post new n (a .made) (d .body) k (a .data-fits (l .free)) in
@@ -190,8 +190,8 @@ pushed-spills c s y pre l post new n d a x1 x2 x3 =
     let len : length (l .nodes ++ (n (E + 16) ∷ [])) ≡ length (l .nodes) + 1 = length-append (l .nodes) (n (E + 16) ∷ []) in
     let t : tail-of l′ ≡ tail (l .id) fresh (length (l .fragments)) (E + 16 + length new) (length (l .nodes) + 1) = rw (last, num, len) in
     let q : applied c (spilling-at y (l .id) new (tail-of l) (length (l .fragments)) .writes)
-        ≡ spilt c E (nf ++ pad) (l .free) (nodes-to (last-fragment (l .fragments)))
-        = applied-spill c (put E (nf ++ pad)) (ended (l .free) (nodes-to (last-fragment (l .fragments)))) (put (nodes-to (last-fragment (l .fragments))) (span-bytes fresh)) in
+    ≡ spilt c E (nf ++ pad) (l .free) (nodes-to (last-fragment (l .fragments)))
+    = applied-spill c (put E (nf ++ pad)) (ended (l .free) (nodes-to (last-fragment (l .fragments)))) (put (nodes-to (last-fragment (l .fragments))) (span-bytes fresh)) in
     let bd = body-spill c h e gs pre l post new pad n (a .made) (d .body) (omega arith) (omega arith) (omega arith) (omega arith) (a .data-fits (E + 16)) in
     record {
       list = l′;
@@ -222,7 +222,7 @@ node-pushed c s y pre l post new n d a x1 x2 x3 e = elim (cases-bool (leb (l .fr
       let some = spread-some c (r1 .0 .part .spread) in
       let k : length (l .fragments) ≡ length (l .fragments) - 1 + 1 = omega arith in
       subst (λ p. Pushed c s y n pre l post p) (sym (with-spills y (l .id) new (tail-of l) e f))
-        (subst (λ k. Pushed c s y n pre l post (spilling-at y (l .id) new (tail-of l) k)) k (pushed-spills c s y pre l post new n d a x1 x2 x3))
+      (subst (λ k. Pushed c s y n pre l post (spilling-at y (l .id) new (tail-of l) k)) k (pushed-spills c s y pre l post new n d a x1 x2 x3))
 ]
 
 -- a node's plan keeps the highest ID, and touches its list

@@ -137,8 +137,8 @@ log-fits b c h h′ l t g a e r n w p q =
     let k = g .part in
     let some = log-some b h l g in
     let more : log-row c fs (l .used + length (closed t)) ≡ log-row c fs (l .used) ++ entries-of c (last-of (span 0 0) fs) (l .used) (length (closed t))
-        = split-log (λ z. log-row c z (l .used + length (closed t)) ≡ log-row c z (l .used) ++ entries-of c (last-of (span 0 0) z) (l .used) (length (closed t))) fs some
-          (λ f gs. row-more c (span 0 0) f gs (l .used) (length (closed t))) in
+    = split-log (λ z. log-row c z (l .used + length (closed t)) ≡ log-row c z (l .used) ++ entries-of c (last-of (span 0 0) z) (l .used) (length (closed t))) fs some
+    (λ f gs. row-more c (span 0 0) f gs (l .used) (length (closed t))) in
     let row : log-row c fs (l .used) ≡ flat (map closed ts) = sym (row-local b c (h .end) fs (l .used) (k .inside) a) ∙ k .row ∙ append-nil (flat (map closed ts)) in
     let len = length-append ts (t ∷ []) in
     record {
@@ -171,18 +171,18 @@ log-spills b c h h′ l t fit rest x g a e r n w s p q y z u v i o m =
     let some = log-some b h l g in
     let full = entries-in (last-of d fs .size) in
     let next : log-row c (fs ++ (x ∷ [])) (length rest) ≡ log-row c fs (entries-in (last-of d fs .size)) ++ entries-of c x 0 (length rest)
-        = split-log (λ w. log-row c (w ++ (x ∷ [])) (length rest) ≡ log-row c w (entries-in (last-of d w .size)) ++ entries-of c x 0 (length rest)) fs some (λ f gs. row-next c d f gs x (length rest)) in
+    = split-log (λ w. log-row c (w ++ (x ∷ [])) (length rest) ≡ log-row c w (entries-in (last-of d w .size)) ++ entries-of c x 0 (length rest)) fs some (λ f gs. row-next c d f gs x (length rest)) in
     let more : log-row c fs (l .used + length fit) ≡ log-row c fs (l .used) ++ entries-of c (last-of d fs) (l .used) (length fit)
-        = split-log (λ w. log-row c w (l .used + length fit) ≡ log-row c w (l .used) ++ entries-of c (last-of d w) (l .used) (length fit)) fs some (λ f gs. row-more c d f gs (l .used) (length fit)) in
+    = split-log (λ w. log-row c w (l .used + length fit) ≡ log-row c w (l .used) ++ entries-of c (last-of d w) (l .used) (length fit)) fs some (λ f gs. row-more c d f gs (l .used) (length fit)) in
     let row : log-row c fs (l .used) ≡ flat (map closed ts) = sym (row-local b c (h .end) fs (l .used) (k .inside) a) ∙ k .row ∙ append-nil (flat (map closed ts)) in
     let upto : log-row c fs (entries-in (last-of d fs .size)) ≡ flat (map closed ts) ++ fit
-        = ap (λ w. log-row c fs w) (sym p) ∙ more ∙ ap (λ w. w ++ entries-of c (last-of d fs) (l .used) (length fit)) row ∙ ap (λ w. flat (map closed ts) ++ w) q in
+    = ap (λ w. log-row c fs w) (sym p) ∙ more ∙ ap (λ w. w ++ entries-of c (last-of d fs) (l .used) (length fit)) row ∙ ap (λ w. flat (map closed ts) ++ w) q in
     let whole : log-row c (fs ++ (x ∷ [])) (length rest) ≡ flat (map closed ts) ++ closed t
-        = next ∙ ap (λ w. w ++ entries-of c x 0 (length rest)) upto ∙ ap (λ w. (flat (map closed ts) ++ fit) ++ w) z ∙ append-assoc (flat (map closed ts)) fit rest ∙ ap (λ w. flat (map closed ts) ++ w) (sym s) in
+    = next ∙ ap (λ w. w ++ entries-of c x 0 (length rest)) upto ∙ ap (λ w. (flat (map closed ts) ++ fit) ++ w) z ∙ append-assoc (flat (map closed ts)) fit rest ∙ ap (λ w. flat (map closed ts) ++ w) (sym s) in
     let k1 : Chain (λ f. span-at c (log-next f)) (h′ .log) fs = subst (λ w. Chain (λ f. span-at c (log-next f)) w fs) (sym r) (chain-local b c (h .end) (h .log) fs (l .used) (k .inside) a (k .chain)) in
     let k2 : Chain (λ f. span-at c (log-next f)) (h′ .log) (fs ++ (x ∷ []))
-        = split-log (λ w. Chain (λ f. span-at c (log-next f)) (h′ .log) w → span-at c (log-next (last-of d w)) ≡ x → Chain (λ f. span-at c (log-next f)) (h′ .log) (w ++ (x ∷ []))) fs some
-          (λ f gs ch eq. chain-next c d (h′ .log) f gs x ch eq) k1 y in
+    = split-log (λ w. Chain (λ f. span-at c (log-next f)) (h′ .log) w → span-at c (log-next (last-of d w)) ≡ x → Chain (λ f. span-at c (log-next f)) (h′ .log) (w ++ (x ∷ []))) fs some
+    (λ f gs ch eq. chain-next c d (h′ .log) f gs x ch eq) k1 y in
     let len = length-append ts (t ∷ []) in
     record {
       part = record {

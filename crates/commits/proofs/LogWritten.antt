@@ -149,8 +149,8 @@ log-done-spills : (c : List ℕ) (s : Section) (y : Layout) (ls : List NodeList)
     → new-entries y ≡ fit ++ rest → All Small fit → All Small rest → s .log .used + length fit ≡ entries-in (last-of (span 0 0) (s .log .fragments) .size)
     → 1 ≤ length rest → length rest ≤ 126 → y .fragments + 1 ≤ 2048
     → let g = last-of (span 0 0) (s .log .fragments) in
-      let piece = at-end y (new-log-fragment rest) in
-      Log-done c (written (written (written c (y .end) (piece .new)) (log-next g) (span-bytes (span (y .end) 1024))) (entry-place g (s .log .used)) (entry-bytes fit)) s y ls (headed (s .header) (behind piece) guid)
+    let piece = at-end y (new-log-fragment rest) in
+    Log-done c (written (written (written c (y .end) (piece .new)) (log-next g) (span-bytes (span (y .end) 1024))) (entry-place g (s .log .used)) (entry-bytes fit)) s y ls (headed (s .header) (behind piece) guid)
 log-done-spills c s y ls guid fit rest d f w q sf sr p r1 r2 few =
     let gs = s .log .fragments in
     let lf : List Span = list-fragments ls in
@@ -246,7 +246,7 @@ log-done c s y ls guid d f w sm few k = elim (cases-bool (ltb room (length es)))
       let pl = d .logs .part .places in
       let k1 : y .fragments + 1 ≤ 2048 = rw m at k in
       rw (r, m) (subst (λ (z : List ℕ). Log-done c z s y ls (headed (s .header) (behind (at-end y (new-log-fragment (drop room es)))) guid)) (sym (fit-write _ (take room es) (entry-place g (s .log .used))))
-        (log-done-spills c s y ls guid (take room es) (drop room es) d f w (sym (take-append-drop room es)) x0 x1 (omega arith) (omega arith) (omega arith) k1))
+      (log-done-spills c s y ls guid (take room es) (drop room es) d f w (sym (take-append-drop room es)) x0 x1 (omega arith) (omega arith) (omega arith) k1))
   | inr m ↦
       let b1 : length es ≤ room = grind (arith, tells) in
       let x : take room es ≡ es = take-all room es (omega arith) in
@@ -257,9 +257,12 @@ log-done c s y ls guid d f w sm few k = elim (cases-bool (ltb room (length es)))
   where
     g : Span
     g = last-of (span 0 0) (s .log .fragments)
+
     es : List Entry
     es = new-entries y
+
     room : ℕ
     room = entries-in (g .size) - s .log .used
+
     news : List Write
     news = at-end y (new-log-fragment (drop room es)) ∷ put (log-next g) (span-bytes (span (y .end) 1024)) ∷ []

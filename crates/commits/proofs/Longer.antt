@@ -73,11 +73,11 @@ body-list b h e gs ls id new pad n m d k r i a w =
     let F : List Span = header-span ∷ (gs ++ list-fragments ls) in
     let by-end : All (λ f. end-of f ≤ E) F = all-by-end b h gs ls d in
     let x : header-span ∷ (gs ++ list-fragments (ls ++ (l ∷ []))) ≡ F ++ (fresh ∷ [])
-        = ap (λ z. header-span ∷ z) (ap (λ z. gs ++ z) (flat-append (λ (m : NodeList). m .fragments) ls (l ∷ [])) ∙ sym (append-assoc gs (list-fragments ls) (fresh ∷ []))) in
+    = ap (λ z. header-span ∷ z) (ap (λ z. gs ++ z) (flat-append (λ (m : NodeList). m .fragments) ls (l ∷ [])) ∙ sym (append-assoc gs (list-fragments ls) (fresh ∷ []))) in
     let y : data-spans (ls ++ (l ∷ [])) ≡ data-spans ls
-        = flat-append (λ (l : NodeList). references (l .nodes)) ls (l ∷ []) ∙ ap (λ (z : List Node). data-spans ls ++ (map (λ m. m .reference) z ++ [])) w ∙ append-nil (data-spans ls) in
+    = flat-append (λ (l : NodeList). references (l .nodes)) ls (l ∷ []) ∙ ap (λ (z : List Node). data-spans ls ++ (map (λ m. m .reference) z ++ [])) w ∙ append-nil (data-spans ls) in
     let both : All (λ r. (end-of r ≤ E) × All (Apart r) F) (data-spans ls)
-        = all-both (λ r. end-of r ≤ E) (λ r. All (Apart r) F) (λ r. (end-of r ≤ E) × All (Apart r) F) (data-spans ls) (λ r x y. (x, y)) (d .data-inside) (d .data-apart) in
+    = all-both (λ r. end-of r ≤ E) (λ r. All (Apart r) F) (λ r. (end-of r ≤ E) × All (Apart r) F) (data-spans ls) (λ r x y. (x, y)) (d .data-inside) (d .data-apart) in
     record {
       whole = f .whole;
       least = f .least;

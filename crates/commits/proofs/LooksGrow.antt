@@ -80,7 +80,7 @@ front-holds c b ns′ ns X i e h =
 -- the same checks, and nodes that hold the same
 node-alike : (c b : List ℕ) (n n′ : ℕ) (k index m : ℕ) (found found′ : Bool) (x x′ : Node) → 1 ≤ k → k ≤ n → n ≤ n′ → (found′ ≡ found) ⊎ (m ≡ 0) → (found ≡ true → index < m → holds c x′ ≡ holds b x)
     → Alike c b (unless ((eqb k 0 || ltb n′ k, fault 25 5 0 0) ∷ (not found′ || leb m index, fault 26 5 0 0) ∷ []) (done x′))
-      (unless ((eqb k 0 || ltb n k, fault 25 5 0 0) ∷ (not found || leb m index, fault 26 5 0 0) ∷ []) (done x))
+    (unless ((eqb k 0 || ltb n k, fault 25 5 0 0) ∷ (not found || leb m index, fault 26 5 0 0) ∷ []) (done x))
 node-alike c b n n′ k index m found found′ x x′ h u v w same =
     let a : (eqb k 0 || ltb n k) ≡ false = grind (arith, tells) in
     let a′ : (eqb k 0 || ltb n′ k) ≡ false = grind (arith, tells) in
@@ -111,20 +111,20 @@ read-alike b c s adds guid k list index r m sources low high =
     let rise : Rising [] (flat ts) = subst (λ z. Rising [] z) (append-nil (flat ts)) (m .log .part .rising) in
     let most = count-most ts k list rise in
     let q : count-at (r .log) k list ≡ count-at (s .log) k list
-        = ap (λ (z : List (List Entry)). count-in (take k z) list) (r .transactions) ∙ ap (λ (z : List (List Entry)). count-in z list) (take-append-le k ts (count-entries (layout s adds) ∷ []) (omega arith)) in
+    = ap (λ (z : List (List Entry)). count-in (take k z) list) (r .transactions) ∙ ap (λ (z : List (List Entry)). count-in z list) (take-append-le k ts (count-entries (layout s adds) ∷ []) (omega arith)) in
     let either : (taken list (r .lists) ≡ taken list (s .lists)) ⊎ (count-at (s .log) k list ≡ 0) = elim (cases-lt (blank s .highest) list) [
       | inl h ↦ let z = latest-absent list (blank s .highest) 0 (flat ts) h sources in inr (omega arith)
       | inr h ↦ inl (r .known list (omega arith))
     ] in
     let same : taken list (s .lists) ≡ true → index < count-at (s .log) k list → holds c (getD (nodes-of (r .lists) list) index no-node) ≡ holds b (getD (nodes-of (s .lists) list) index no-node) = λ e h.
-        let (l, i, f) = taken-in (s .lists) list e in
-        let n : nodes-of (s .lists) list ≡ l .nodes = nodes-in (s .lists) l list (m .ids-differ) i f in
-        let u : length (l .nodes) ≡ count-in ts list = all-in (Stands b (s .header) (s .log)) (s .lists) l (m .lists) i .counted ∙ ap (λ z. count-in ts z) f in
-        let v : length (nodes-of (s .lists) list) ≡ length (l .nodes) = ap length n in
-        front-holds c b (nodes-of (r .lists) list) (nodes-of (s .lists) list) (saved (blank s) adds list) index (r .grown list) (omega arith) in
+    let (l, i, f) = taken-in (s .lists) list e in
+    let n : nodes-of (s .lists) list ≡ l .nodes = nodes-in (s .lists) l list (m .ids-differ) i f in
+    let u : length (l .nodes) ≡ count-in ts list = all-in (Stands b (s .header) (s .log)) (s .lists) l (m .lists) i .counted ∙ ap (λ z. count-in ts z) f in
+    let v : length (nodes-of (s .lists) list) ≡ length (l .nodes) = ap length n in
+    front-holds c b (nodes-of (r .lists) list) (nodes-of (s .lists) list) (saved (blank s) adds list) index (r .grown list) (omega arith) in
     subst (λ z. Alike c b (unless ((eqb k 0 || ltb (s .header .count + 1) k, fault 25 5 0 0) ∷ (not (taken list (r .lists)) || leb z index, fault 26 5 0 0) ∷ []) (done (getD (nodes-of (r .lists) list) index no-node))) (node-of s k list index))
-      (sym q) (node-alike c b (s .header .count) (s .header .count + 1) k index (count-at (s .log) k list) (taken list (s .lists)) (taken list (r .lists)) (getD (nodes-of (s .lists) list) index no-node) (getD (nodes-of (r .lists) list) index no-node)
-      low high (omega arith) either same)
+    (sym q) (node-alike c b (s .header .count) (s .header .count + 1) k index (count-at (s .log) k list) (taken list (s .lists)) (taken list (r .lists)) (getD (nodes-of (s .lists) list) index no-node) (getD (nodes-of (r .lists) list) index no-node)
+    low high (omega arith) either same)
 
 -- as the model states it
 pub looks-grow : Looks-grow

@@ -120,8 +120,8 @@ spill-from : (b c : List ℕ) (h h′ : Header) (id : ℕ) (fs : List Span) (ns 
     → Made new n → h .end + 1024 ≤ h′ .end → h .end < 2 ^ 64 → id < 2 ^ 32 → length fs < 2 ^ 32 → Pairwise Apart fs → List-part b h id fs ns q
     → Ready b c (h .end) (last-of (span 0 0) fs) q (new-fragment id (length fs) new ++ pad)
     → let c′ = written c (nodes-to (last-of (span 0 0) fs)) (span-bytes (span (h .end) 1024)) in
-      Around b c′ (h .end) (last-of (span 0 0) fs) q 16 8 × (h .end + 1024 + length pad ≤ length c′)
-      × List-part c′ h′ id (fs ++ (span (h .end) 1024 ∷ [])) (ns ++ (n (h .end + 16) ∷ [])) (h .end + 16 + length new)
+    Around b c′ (h .end) (last-of (span 0 0) fs) q 16 8 × (h .end + 1024 + length pad ≤ length c′)
+    × List-part c′ h′ id (fs ++ (span (h .end) 1024 ∷ [])) (ns ++ (n (h .end + 16) ∷ [])) (h .end + 16 + length new)
 spill-from b c h h′ id fs ns q new pad n m e u i j a p r =
     let g = last-of (span 0 0) fs in
     let E = h .end in
@@ -149,9 +149,9 @@ spill-from b c h h′ id fs ns q new pad n m e u i j a p r =
 pub spill-list : (b : List ℕ) (h h′ : Header) (id : ℕ) (fs : List Span) (ns : List Node) (q : ℕ) (new pad : List ℕ) (n : ℕ → Node)
     → Made new n → h .end ≤ length b → h .end + 1024 ≤ h′ .end → h .end < 2 ^ 64 → id < 2 ^ 32 → length fs < 2 ^ 32 → Pairwise Apart fs → List-part b h id fs ns q
     → let c = spilt b (h .end) (new-fragment id (length fs) new ++ pad) q (nodes-to (last-of (span 0 0) fs)) in
-      Around b c (h .end) (last-of (span 0 0) fs) q 16 8 × (h .end + 1024 + length pad ≤ length c)
-      × List-part c h′ id (fs ++ (span (h .end) 1024 ∷ [])) (ns ++ (n (h .end + 16) ∷ [])) (h .end + 16 + length new)
+    Around b c (h .end) (last-of (span 0 0) fs) q 16 8 × (h .end + 1024 + length pad ≤ length c)
+    × List-part c h′ id (fs ++ (span (h .end) 1024 ∷ [])) (ns ++ (n (h .end + 16) ∷ [])) (h .end + 16 + length new)
 spill-list b h h′ id fs ns q new pad n m l e u i j a p =
     let (x, y, z, w) = spread-ends b (h .end) (span 0 0) (p .spread) (p .inside) in
     spill-from b (applied (written b (h .end) (new-fragment id (length fs) new ++ pad)) (ended q (nodes-to (last-of (span 0 0) fs)))) h h′ id fs ns q new pad n m e u i j a p
-      (ready b (h .end) (last-of (span 0 0) fs) q (new-fragment id (length fs) new ++ pad) x z w l)
+    (ready b (h .end) (last-of (span 0 0) fs) q (new-fragment id (length fs) new ++ pad) x z w l)

@@ -97,11 +97,11 @@ seen-alike c b t s (data-look k list index place size buffer) a =
     then-alike c b (node-of t k list index) (node-of s k list index) (λ n. data-seen c place size buffer (data-of n)) (λ n. data-seen b place size buffer (data-of n)) (a list index) (same-data-of c b place size buffer)
 seen-alike c b t s (alike k list index other-list other-index) a =
     then-alike c b (node-of t k list index) (node-of s k list index)
-      (λ n. then (node-of t k other-list other-index) (λ m. done (equal (eqb (n .id) (m .id) && same-row (n .payload) (m .payload)))))
-      (λ n. then (node-of s k other-list other-index) (λ m. done (equal (eqb (n .id) (m .id) && same-row (n .payload) (m .payload)))))
-      (a list index) (λ n n′ e. then-alike c b (node-of t k other-list other-index) (node-of s k other-list other-index)
-        (λ m. done (equal (eqb (n .id) (m .id) && same-row (n .payload) (m .payload)))) (λ m. done (equal (eqb (n′ .id) (m .id) && same-row (n′ .payload) (m .payload))))
-        (a other-list other-index) (λ m m′ f. two (holds c n) (holds b n′) (holds c m) (holds b m′) e f))
+    (λ n. then (node-of t k other-list other-index) (λ m. done (equal (eqb (n .id) (m .id) && same-row (n .payload) (m .payload)))))
+    (λ n. then (node-of s k other-list other-index) (λ m. done (equal (eqb (n .id) (m .id) && same-row (n .payload) (m .payload)))))
+    (a list index) (λ n n′ e. then-alike c b (node-of t k other-list other-index) (node-of s k other-list other-index)
+    (λ m. done (equal (eqb (n .id) (m .id) && same-row (n .payload) (m .payload)))) (λ m. done (equal (eqb (n′ .id) (m .id) && same-row (n′ .payload) (m .payload))))
+    (a other-list other-index) (λ m m′ f. two (holds c n) (holds b n′) (holds c m) (holds b m′) e f))
   where
     two : (x x′ z z′ : Content) → x ≡ x′ → z ≡ z′
         → _≡_ {A = Outcome Seen} (done (equal (eqb (x .id) (z .id) && same-row (x .payload) (z .payload)))) (done (equal (eqb (x′ .id) (z′ .id) && same-row (x′ .payload) (z′ .payload))))

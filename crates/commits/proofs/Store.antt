@@ -65,9 +65,9 @@ stored-front b p xs ys o = record {
 
 pub stored-back : (b : List ℕ) (p : ℕ) (xs ys : List ℕ) → Stored b p (xs ++ ys) → Stored b (p + length xs) ys
 stored-back b p xs ys o = record {
-  bytes = λ i l. 
-    let a : p + length xs + i ≡ p + (length xs + i) = omega arith in
-    rw a (o .bytes (length xs + i) (omega (arith, length-append xs ys)) ∙ search (needs, places));
+  bytes = λ i l.
+      let a : p + length xs + i ≡ p + (length xs + i) = omega arith in
+      rw a (o .bytes (length xs + i) (omega (arith, length-append xs ys)) ∙ search (needs, places));
   fits = omega (arith, length-append xs ys, o .fits);
 }
 
@@ -84,11 +84,11 @@ le-stored (suc n) b p v h o =
 -- a piece that stands there
 pub piece-stored : (b : List ℕ) (p : ℕ) (xs : List ℕ) → Stored b p xs → piece b p (length xs) ≡ xs
 unfolding piece
-piece-stored b p xs o = 
+piece-stored b p xs o =
     let u : length (take (length xs) (drop p b)) ≡ length xs = simp (length-take, length-drop) (omega (arith, o .fits)) in
     ext-getD 0 _ _ u (λ i k.
-      let l : i < length xs = omega arith in
-      rw (getD-take, getD-drop) (o .bytes i l))
+    let l : i < length xs = omega arith in
+    rw (getD-take, getD-drop) (o .bytes i l))
 
 -- numbers of 4 and of 8 bytes, references and entries
 pub four-stored : (b : List ℕ) (p v : ℕ) → v < 2 ^ 32 → Stored b p (digits 4 v) → le 4 b p ≡ v

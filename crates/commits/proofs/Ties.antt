@@ -111,10 +111,10 @@ tied-branch h pre l l′ post m q e f g z t =
     let ms : List NodeList = ks ++ (m ∷ []) in
     let old : (r : Span) → Has (names l) r → Has (names l′) r = λ r x. subst (λ (w : List Named). Has (map (λ p. p .1) w) r) (sym f) (subst (λ w. Has w r) (sym (map-append (λ (p : Named). p .1) (named-by l) (q ∷ []))) (has-append-left (names l) (q .1 ∷ []) r x)) in
     let new : Has (names l′) (first-of m) = subst (λ (w : List Named). Has (map (λ p. p .1) w) (first-of m)) (sym f)
-        (subst (λ w. Has w (first-of m)) (sym (map-append (λ (p : Named). p .1) (named-by l) (q ∷ []))) (has-append-right (names l) (q .1 ∷ []) (first-of m) (subst (λ w. Has (q .1 ∷ []) w) g (has-here (q .1) [])))) in
+    (subst (λ w. Has w (first-of m)) (sym (map-append (λ (p : Named). p .1) (named-by l) (q ∷ []))) (has-append-right (names l) (q .1 ∷ []) (first-of m) (subst (λ w. Has (q .1 ∷ []) w) g (has-here (q .1) [])))) in
     let c : Carries ls ms = carries-push pre l l′ post (m ∷ []) e old in
     let rs : All (λ k. Reached h ms (first-of k)) ks = all-instead (λ k. Reached h ms (first-of k)) pre l l′ post (λ x. subst (λ w. Reached h ms w) (sym e) x)
-          (all-weaker (λ k. Reached h ls (first-of k)) (λ k. Reached h ms (first-of k)) (λ k x. reached-more h h ls ms refl c (first-of k) x) ls (t .reached)) in
+    (all-weaker (λ k. Reached h ls (first-of k)) (λ k. Reached h ms (first-of k)) (λ k x. reached-more h h ls ms refl c (first-of k) x) ls (t .reached)) in
     let rl : Reached h ms (first-of l′) = all-front (λ k. Reached h ms (first-of k)) pre (l′ ∷ post) rs .1 .0 in
     let has : Has ms l′ = has-append-left ks (m ∷ []) l′ (has-append-right pre (l′ ∷ post) l′ (has-here l′ post)) in
     let fs : map first-of ms ≡ map first-of ls ++ (first-of m ∷ []) = map-append first-of ks (m ∷ []) ∙ ap (λ w. w ++ (first-of m ∷ [])) (map-instead first-of pre l l′ post e) in
@@ -128,9 +128,9 @@ tied-branch h pre l l′ post m q e f g z t =
     let A = flat (map named-by pre) in
     let B = flat (map named-by post) in
     let c1 : length (named-in h ls) ≡ length (named-first h) + (length A + (length (named-by l) + length B))
-        = length-append (named-first h) (flat (map named-by ls)) ∙ ap (λ w. length (named-first h) + w) (ap length (flat-append named-by pre (l ∷ post)) ∙ length-append A (named-by l ++ B) ∙ ap (λ w. length A + w) (length-append (named-by l) B)) in
+    = length-append (named-first h) (flat (map named-by ls)) ∙ ap (λ w. length (named-first h) + w) (ap length (flat-append named-by pre (l ∷ post)) ∙ length-append A (named-by l ++ B) ∙ ap (λ w. length A + w) (length-append (named-by l) B)) in
     let c2 : length (flat (map named-by ks)) ≡ length A + (length (named-by l′) + length B)
-        = ap length (flat-append named-by pre (l′ ∷ post)) ∙ length-append A (named-by l′ ++ B) ∙ ap (λ w. length A + w) (length-append (named-by l′) B) in
+    = ap length (flat-append named-by pre (l′ ∷ post)) ∙ length-append A (named-by l′ ++ B) ∙ ap (λ w. length A + w) (length-append (named-by l′) B) in
     let c3 : length (flat (map named-by ms)) ≡ length (flat (map named-by ks)) = ap length (flat-append named-by ks (m ∷ []) ∙ ap (λ (w : List Named). flat (map named-by ks) ++ (w ++ [])) z ∙ append-nil (flat (map named-by ks))) in
     let c4 : length (named-by l′) ≡ length (named-by l) + 1 = ap length f ∙ length-append (named-by l) (q ∷ []) in
     let c5 : length (named-in h ms) ≡ length (named-first h) + length (flat (map named-by ms)) = length-append (named-first h) (flat (map named-by ms)) in

@@ -32,7 +32,7 @@ unless-done ((false, f) ∷ cs) a x e = let (c, d) = unless-done cs a x e in ((r
 
 pub unless-clean : {A : Type 0} (cs : List Check) (a : Outcome A) → Clean cs → unless cs a ≡ a
 unless-clean [] a k = refl
-unless-clean ((t, f) ∷ cs) a (e , k) = rw e (unless-clean cs a k)
+unless-clean ((t, f) ∷ cs) a (e, k) = rw e (unless-clean cs a k)
 
 pub then-done : {A B : Type 0} (w : Outcome A) (k : A → Outcome B) (x : B) → then w k ≡ done x → (a : A) × (w ≡ done a) × (k a ≡ done x)
 then-done (done a) k x e = (a, refl, e)
@@ -115,11 +115,11 @@ apart-back r s a i x y = a i y x
 pub apart-share : (r s : Span) → Apart r s → share r s ≡ false
 apart-share r s a = elim (cases-bool (share r s)) [
   | inl e ↦ absurd (elim (cases-bool (leb (r .start) (s .start))) [
-      | inl l ↦ let x : Within r (s .start) = (grind (arith, tells), grind (arith, tells)) in
-                let y : Within s (s .start) = (omega arith, grind (arith, tells)) in a (s .start) x y
-      | inr l ↦ let x : Within r (r .start) = (omega arith, grind (arith, tells)) in
-                let y : Within s (r .start) = (grind (arith, tells), grind (arith, tells)) in a (r .start) x y
-    ])
+    | inl l ↦ let x : Within r (s .start) = (grind (arith, tells), grind (arith, tells)) in
+        let y : Within s (s .start) = (omega arith, grind (arith, tells)) in a (s .start) x y
+    | inr l ↦ let x : Within r (r .start) = (omega arith, grind (arith, tells)) in
+        let y : Within s (r .start) = (grind (arith, tells), grind (arith, tells)) in a (r .start) x y
+  ])
   | inr e ↦ e
 ]
 

@@ -76,8 +76,8 @@ same-fragments : (log : Log) (S T : List NodeList) (P : Span → Type 0) → ((l
 same-fragments log S T P k a =
     let (u, v) = all-front P (log .fragments) (list-fragments S) a in
     all-append P (log .fragments) (list-fragments T) u (all-from-in P (list-fragments T) (λ f i.
-      let (l, j, w) = in-unflat (λ (l : NodeList). l .fragments) T f i in
-      all-in P (list-fragments S) f v (in-flat (λ (l : NodeList). l .fragments) S l f (k l j) w)))
+    let (l, j, w) = in-unflat (λ (l : NodeList). l .fragments) T f i in
+    all-in P (list-fragments S) f v (in-flat (λ (l : NodeList). l .fragments) S l f (k l j) w)))
 
 -- references to data that are right pass
 pub data-clean : (h : Header) (log : Log) (S T : List NodeList) → ((l : NodeList) → In l T → In l S)
@@ -85,13 +85,13 @@ pub data-clean : (h : Header) (log : Log) (S T : List NodeList) → ((l : NodeLi
     → Clean (all-data h log T)
 data-clean h log S T k inside apart =
     all-flat (λ (c : Check). c .0 ≡ false) (λ (l : NodeList). data-checks (h .end) (log .fragments ++ list-fragments T) (l .id) (referring 1 (l .nodes))) T (λ l i.
-      data-passes (h .end) (log .fragments ++ list-fragments T) (l .id) (referring 1 (l .nodes))
-        (all-from-in (λ (n : Node). Data-fits (h .end) (log .fragments ++ list-fragments T) (n .reference)) (referring 1 (l .nodes)) (λ n j.
-          let r : In (n .reference) (data-spans S)
-              = in-flat (λ (l : NodeList). references (l .nodes)) S l (n .reference) (k l i) (in-map (λ (n : Node). n .reference) (referring 1 (l .nodes)) n j) in
-          let a : All (Apart (n .reference)) (header-span ∷ (log .fragments ++ list-fragments S))
-              = all-in (λ r. All (Apart r) (header-span ∷ (log .fragments ++ list-fragments S))) (data-spans S) (n .reference) apart r in
-          (all-in (λ r. end-of r ≤ h .end) (data-spans S) (n .reference) inside r, (a .0, same-fragments log S T (Apart (n .reference)) k (a .1))))))
+    data-passes (h .end) (log .fragments ++ list-fragments T) (l .id) (referring 1 (l .nodes))
+    (all-from-in (λ (n : Node). Data-fits (h .end) (log .fragments ++ list-fragments T) (n .reference)) (referring 1 (l .nodes)) (λ n j.
+    let r : In (n .reference) (data-spans S)
+    = in-flat (λ (l : NodeList). references (l .nodes)) S l (n .reference) (k l i) (in-map (λ (n : Node). n .reference) (referring 1 (l .nodes)) n j) in
+    let a : All (Apart (n .reference)) (header-span ∷ (log .fragments ++ list-fragments S))
+    = all-in (λ r. All (Apart r) (header-span ∷ (log .fragments ++ list-fragments S))) (data-spans S) (n .reference) apart r in
+    (all-in (λ r. end-of r ≤ h .end) (data-spans S) (n .reference) inside r, (a .0, same-fragments log S T (Apart (n .reference)) k (a .1))))))
 
 -- opening ----------------------------------------------------------------------------------------------------------
 
@@ -139,24 +139,31 @@ pub means-opens : (b : List ℕ) (s : Section) → Means b s
     → (T : List NodeList) × (opened b ≡ done (reordered s T)) × Stock (s .header) (s .log) (s .lists) T × In-order (s .header) T
 means-opens b s m =
     let (T, r, k, o) = lists-read 1024 b (s .header) (s .log) (s .lists) [] (s .lists) (named-first (s .header)) (means-right b s m) (means-stock b s m)
-        (ap (λ w. map (λ q. q .1) w) (append-nil (named-first (s .header)))) (m .few-lists) in
-    (T, opens-back b (reordered s T) (record {
-          checks = headed-passes b (s .header) (m .header);
-          header = sym (m .header .fields);
-          log = logs-read b (s .header) (s .log) (m .log) (m .header .counts);
-          lists = r;
-          content = data-clean (s .header) (s .log) (s .lists) T (k .to) (m .data-inside) (m .data-apart);
-        }), k, o)
+    (ap (λ w. map (λ q. q .1) w) (append-nil (named-first (s .header)))) (m .few-lists) in (
+      T,
+      opens-back b (reordered s T) (record {
+        checks = headed-passes b (s .header) (m .header);
+        header = sym (m .header .fields);
+        log = logs-read b (s .header) (s .log) (m .log) (m .header .counts);
+        lists = r;
+        content = data-clean (s .header) (s .log) (s .lists) T (k .to) (m .data-inside) (m .data-apart);
+      }),
+      k,
+      o,
+    )
 
 pub meant-opens : Meant-opens
 meant-opens b s m =
-    let (T, e, k, o) = means-opens b s m in
-    (reordered s T, e, record {
-      header = refl;
-      log = refl;
-      number = k .same;
-      lists = all-from-in (λ l. Has T l) (s .lists) (λ l i. has-from-in T l (k .from l i));
-    })
+    let (T, e, k, o) = means-opens b s m in (
+      reordered s T,
+      e,
+      record {
+        header = refl;
+        log = refl;
+        number = k .same;
+        lists = all-from-in (λ l. Has T l) (s .lists) (λ l i. has-from-in T l (k .from l i));
+      },
+    )
 
 -- and as s itself, if its lists stand in that order
 pub means-opens-in-order : (b : List ℕ) (s : Section) → Means b s → In-order (s .header) (s .lists) → opened b ≡ done s

@@ -73,11 +73,12 @@ pub all-data-right : (end : ℕ) (fs : List Span) (ls : List NodeList) → Clean
 all-data-right end fs [] c = (tt, tt)
 all-data-right end fs (l ∷ ls) c =
     let (x, y) = all-front (λ (c : Check). c .0 ≡ false) (data-checks end fs (l .id) (referring 1 (l .nodes)))
-        (flat (map (λ (l : NodeList). data-checks end fs (l .id) (referring 1 (l .nodes))) ls)) c in
+    (flat (map (λ (l : NodeList). data-checks end fs (l .id) (referring 1 (l .nodes))) ls)) c in
     let (u, v) = data-right end fs (l .id) (referring 1 (l .nodes)) x in
-    let (z, w) = all-data-right end fs ls y in
-    (all-append (λ (r : Span). end-of r ≤ end) (references (l .nodes)) (data-spans ls) u z,
-      all-append (λ (r : Span). All (Apart r) (header-span ∷ fs)) (references (l .nodes)) (data-spans ls) v w)
+    let (z, w) = all-data-right end fs ls y in (
+      all-append (λ (r : Span). end-of r ≤ end) (references (l .nodes)) (data-spans ls) u z,
+      all-append (λ (r : Span). All (Apart r) (header-span ∷ fs)) (references (l .nodes)) (data-spans ls) v w,
+    )
 
 -- opening ----------------------------------------------------------------------------------------------------------
 
@@ -119,29 +120,31 @@ opens-meant b s o =
     let logs : Logs b h log = logs-stand b h log (o .log) in
     let nil = append-nil (log .fragments) in
     let start : So-far b h log [] (named-first h) = record {
-          apart = subst (λ w. Pairwise Apart (header-span ∷ w)) (sym nil) (logs .part .apart);
-          ids = tt;
-          order = ap spans (append-nil (named-first h));
-          few = subst (λ w. length w ≤ 2048) (sym nil) (logs .part .few);
-          stands = tt;
-        } in
+      apart = subst (λ w. Pairwise Apart (header-span ∷ w)) (sym nil) (logs .part .apart);
+      ids = tt;
+      order = ap spans (append-nil (named-first h));
+      few = subst (λ w. length w ≤ 2048) (sym nil) (logs .part .few);
+      stands = tt;
+    } in
     let r = lists-stand 1024 b h log (named-first h) [] (s .lists) start (o .lists) in
     let order : In-order h (s .lists) = sym (r .far .order ∙ append-nil (map first-of (s .lists))) in
-    let (inside, apart) = all-data-right (h .end) (log .fragments ++ list-fragments (s .lists)) (s .lists) (o .content) in
-    (record {
-      header = headed;
-      log = logs;
-      lists = r .far .stands;
-      reached = subst (λ w. All (λ (l : NodeList). Reached h (s .lists) (first-of l)) w) (sym (r .is)) (r .reached (first-reached h (s .lists)));
-      named = named-from-order h (s .lists) order;
-      once = once-from-order h (s .lists) order;
-      ids-differ = r .far .ids;
-      fragments-apart = r .far .apart;
-      data-inside = inside;
-      data-apart = apart;
-      few-lists = subst (λ w. length w ≤ 1024) (sym (r .is)) (r .few-lists);
-      few-fragments = r .far .few;
-    }, order)
+    let (inside, apart) = all-data-right (h .end) (log .fragments ++ list-fragments (s .lists)) (s .lists) (o .content) in (
+      record {
+        header = headed;
+        log = logs;
+        lists = r .far .stands;
+        reached = subst (λ w. All (λ (l : NodeList). Reached h (s .lists) (first-of l)) w) (sym (r .is)) (r .reached (first-reached h (s .lists)));
+        named = named-from-order h (s .lists) order;
+        once = once-from-order h (s .lists) order;
+        ids-differ = r .far .ids;
+        fragments-apart = r .far .apart;
+        data-inside = inside;
+        data-apart = apart;
+        few-lists = subst (λ w. length w ≤ 1024) (sym (r .is)) (r .few-lists);
+        few-fragments = r .far .few;
+      },
+      order,
+    )
 
 pub opens-means : (b : List ℕ) (s : Section) → opened b ≡ done s → Means b s × In-order (s .header) (s .lists)
 opens-means b s e = opens-meant b s (opens b s e)
@@ -167,7 +170,7 @@ means-one b s t m n =
       log = z .log;
       number = sym (y .same) ∙ z .number;
       lists = all-from-in (λ (l : NodeList). Has (t .lists) l) (s .lists) (λ l j.
-        has-from-in (t .lists) l (y .to l (in-from-has v l (all-in (λ (l : NodeList). Has v l) (s .lists) l (z .lists) j))));
+          has-from-in (t .lists) l (y .to l (in-from-has v l (all-in (λ (l : NodeList). Has v l) (s .lists) l (z .lists) j))));
     }
 
 -- and one section in that order

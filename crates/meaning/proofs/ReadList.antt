@@ -62,8 +62,8 @@ spread-some b f (g ∷ gs) ms q (across ns ks p w h e r a) l =
 
 pub list-step : (n : ℕ) (b : List ℕ) (end count : ℕ) (ls : List NodeList) (before : List Span) (id field : ℕ) (f : Span) (fs : List Span) (ns : List Node)
     → list-from (suc n) b end count ls before id field f fs ns
-      ≡ unless (list-checks b end count ls before id field f fs)
-          (then (nodes-at (count - length ns) b id (nodes-to f) (nodes-from f) ns) (list-goes (list-from n b end count ls before id) b id f fs))
+    ≡ unless (list-checks b end count ls before id field f fs)
+    (then (nodes-at (count - length ns) b id (nodes-to f) (nodes-from f) ns) (list-goes (list-from n b end count ls before id) b id f fs))
 unfolding list-from
 list-step n b end count ls before id field f fs ns = refl
 
@@ -81,12 +81,19 @@ list-passes : (b : List ℕ) (end count : ℕ) (ls : List NodeList) (before : Li
     → Clean (list-checks b end count ls before id field f fs)
 list-passes b end count ls before id field f fs gs i m r a t c =
     let p = apart-before (header-span ∷ (before ++ fs)) f gs a in
-    let z : eqb count 0 ≡ false = grind (arith, tells) in
-    (inside-passes 36 end f (omega arith) i,
-      (apart-overlaps f (before ++ fs) (p .0) (p .1),
-        (marked-passes b id (length fs) f m r,
-          (and-right (eqb (length fs) 0) (taken id ls) t,
-            (and-right (eqb (length fs) 0) (eqb count 0) z, tt)))))
+    let z : eqb count 0 ≡ false = grind (arith, tells) in (
+      inside-passes 36 end f (omega arith) i,
+      (
+        apart-overlaps f (before ++ fs) (p .0) (p .1),
+        (
+          marked-passes b id (length fs) f m r,
+          (
+            and-right (eqb (length fs) 0) (taken id ls) t,
+            (and-right (eqb (length fs) 0) (eqb count 0) z, tt),
+          ),
+        ),
+      ),
+    )
 
 list-part : (n : ℕ) (b : List ℕ) (end count : ℕ) (ls : List NodeList) (before : List Span) (id field : ℕ) (f : Span) (fs gs : List Span) (ns : List Node) (a : NodePart)
     → Inside 36 end f → Marked b id (length fs) f → 16 ≤ id → Pairwise Apart (header-span ∷ ((before ++ fs) ++ (f ∷ gs))) → taken id ls ≡ false → 1 ≤ count
@@ -108,7 +115,7 @@ list-more : (n : ℕ) (b : List ℕ) (end count : ℕ) (ls : List NodeList) (bef
     → list-from (suc n) b end count ls before id field f fs ns ≡ done (list-is id (fs ++ (f ∷ (g ∷ gs))) (ns ++ all) q)
 list-more n b end count ls before id field f g gs fs ns ks ms all p q w h e a i m r ap′ t c l ih =
     list-part n b end count ls before id field f fs (g ∷ gs) ns (uncounted (ns ++ ks)) i m r ap′ t c
-      (nodes-hand (count - length ns) b id (nodes-to f) (nodes-from f) ns ks p w h (omega arith))
+    (nodes-hand (count - length ns) b id (nodes-to f) (nodes-from f) ns ks p w h (omega arith))
     ∙ ap (λ x. list-from n b end count ls before id (nodes-to f) x (fs ++ (f ∷ [])) (ns ++ ks)) (sym e)
     ∙ ih
     ∙ ap (λ x. done (list-is id x ((ns ++ ks) ++ ms) q)) (append-assoc fs (f ∷ []) (g ∷ gs))
@@ -122,17 +129,17 @@ pub list-reads : (n : ℕ) (b : List ℕ) (end count : ℕ) (ls : List NodeList)
 list-reads zero b end count ls before id field f gs fs ns ms q s i m r a t c k l n≤ = absurd (omega arith)
 list-reads (suc n) b end count ls before id field f [] fs ns ms q (within w) i m r a t c k l n≤ =
     list-part n b end count ls before id field f fs [] ns (counted (ns ++ ms) q) (i .0) (m .0) r a t c
-      (nodes-count (count - length ns) b id (nodes-to f) (nodes-from f) ns ms q w (omega arith))
+    (nodes-count (count - length ns) b id (nodes-to f) (nodes-from f) ns ms q w (omega arith))
 list-reads (suc n) b end count ls before id field f (g ∷ gs) fs ns ms q (across ks js p w h e s split) i m r a t c k l n≤ =
     let some = spread-some b g gs js q s l in
     let long : length ms ≡ length ks + length js = ap length split ∙ length-append ks js in
     let long′ : length (ns ++ ks) ≡ length ns + length ks = length-append ns ks in
     let num : Numbered b id (length (fs ++ (f ∷ []))) (g ∷ gs) = subst (λ x. Numbered b id x (g ∷ gs)) (sym (length-push fs f)) (m .1) in
     let apart : Pairwise Apart (header-span ∷ ((before ++ (fs ++ (f ∷ []))) ++ (g ∷ gs)))
-        = subst (λ x. Pairwise Apart (header-span ∷ x))
-            (sym (append-assoc (before ++ fs) (f ∷ []) (g ∷ gs)) ∙ ap (λ x. x ++ (g ∷ gs)) (append-assoc before fs (f ∷ []))) a in
+    = subst (λ x. Pairwise Apart (header-span ∷ x))
+    (sym (append-assoc (before ++ fs) (f ∷ []) (g ∷ gs)) ∙ ap (λ x. x ++ (g ∷ gs)) (append-assoc before fs (f ∷ []))) a in
     list-more n b end count ls before id field f g gs fs ns ks js ms p q w h e split (i .0) (m .0) r a t c (omega arith)
-      (list-reads n b end count ls before id (nodes-to f) g gs (fs ++ (f ∷ [])) (ns ++ ks) js q s (i .1) num r apart t c (omega arith) l (omega arith))
+    (list-reads n b end count ls before id (nodes-to f) g gs (fs ++ (f ∷ [])) (ns ++ ks) js q s (i .1) num r apart t c (omega arith) l (omega arith))
 
 -- a list that stands is read, from the reference to its first fragment
 stands-with : (n : ℕ) (b : List ℕ) (h : Header) (log : Log) (ls : List NodeList) (before : List Span) (id field : ℕ) (fs : List Span) (ms : List Node) (q : ℕ)
@@ -143,7 +150,7 @@ stands-with n b h log ls before id field (f ∷ fs) ms q s a t l =
     let some = spread-some b f fs ms q (s .part .spread) (s .ends) in
     let c : length ms ≡ count-in (log .transactions) id = s .counted in
     list-reads n b (h .end) (count-in (log .transactions) id) ls before id field f fs [] [] ms q (s .part .spread) (s .part .inside) (s .part .marks) (s .part .real)
-      (subst (λ x. Pairwise Apart (header-span ∷ (x ++ (f ∷ fs)))) (sym (append-nil before)) a) t (omega arith) (omega arith) (s .ends) l
+    (subst (λ x. Pairwise Apart (header-span ∷ (x ++ (f ∷ fs)))) (sym (append-nil before)) a) t (omega arith) (omega arith) (s .ends) l
 
 pub stands-read : (n : ℕ) (b : List ℕ) (h : Header) (log : Log) (ls : List NodeList) (before : List Span) (field : ℕ) (l : NodeList)
     → Stands b h log l → Pairwise Apart (header-span ∷ (before ++ l .fragments)) → taken (l .id) ls ≡ false → length (l .fragments) ≤ n

@@ -74,7 +74,7 @@ step-count n b count f i ts pending e q s l =
 step-sentinel : (n : ℕ) (b : List ℕ) (count : ℕ) (f : Span) (i : ℕ) (ts : List (List Entry)) (pending : List Entry)
     → entry-at b (entry-place f i) ≡ sentinel pending
     → log-entries (suc n) b count f i (reading ts pending)
-      ≡ cond (eqb (length (ts ++ (pending ∷ []))) count) (done (finished (ts ++ (pending ∷ [])) (i + 1))) (log-entries n b count f (i + 1) (reading (ts ++ (pending ∷ [])) []))
+    ≡ cond (eqb (length (ts ++ (pending ∷ []))) count) (done (finished (ts ++ (pending ∷ [])) (i + 1))) (log-entries n b count f (i + 1) (reading (ts ++ (pending ∷ [])) []))
 unfolding log-entries
 step-sentinel n b count f i ts pending q =
     let x : eqb (sentinel pending .number) (sentinel pending .number) ≡ true = grind (arith, tells) in
@@ -112,7 +112,7 @@ entries-on (suc n) b count f i ts pending [] (u ∷ us) es a c q l =
     let x : entry-at b (entry-place f i) ≡ sentinel pending = cc in
     let y : entries-of b f (i + 1) n ++ es ≡ left [] u us = cc in
     let w : (ts ++ (pending ∷ [])) ++ (u ∷ us) ≡ ts ++ ((pending ++ []) ∷ (u ∷ us))
-        = append-assoc ts (pending ∷ []) (u ∷ us) ∙ ap (λ z. ts ++ (z ∷ (u ∷ us))) (sym (append-nil pending)) in
+    = append-assoc ts (pending ∷ []) (u ∷ us) ∙ ap (λ z. ts ++ (z ∷ (u ∷ us))) (sym (append-nil pending)) in
     let c′ : length ((ts ++ (pending ∷ [])) ++ (u ∷ us)) ≡ count = ap length w ∙ c in
     let long = length-append (ts ++ (pending ∷ [])) (u ∷ us) in
     let more : eqb (length (ts ++ (pending ∷ []))) count ≡ false = grind (arith, tells) in
@@ -151,7 +151,7 @@ entries-end (suc m) (suc n) b count f i ts pending [] (u ∷ us) a c q l =
     let x : entry-at b (entry-place f i) ≡ sentinel pending = cc in
     let y : entries-of b f (i + 1) m ≡ left [] u us = cc in
     let w : (ts ++ (pending ∷ [])) ++ (u ∷ us) ≡ ts ++ ((pending ++ []) ∷ (u ∷ us))
-        = append-assoc ts (pending ∷ []) (u ∷ us) ∙ ap (λ z. ts ++ (z ∷ (u ∷ us))) (sym (append-nil pending)) in
+    = append-assoc ts (pending ∷ []) (u ∷ us) ∙ ap (λ z. ts ++ (z ∷ (u ∷ us))) (sym (append-nil pending)) in
     let c′ : length ((ts ++ (pending ∷ [])) ++ (u ∷ us)) ≡ count = ap length w ∙ c in
     let long = length-append (ts ++ (pending ∷ [])) (u ∷ us) in
     let more : eqb (length (ts ++ (pending ∷ []))) count ≡ false = grind (arith, tells) in
@@ -163,8 +163,8 @@ entries-end (suc m) (suc n) b count f i ts pending [] (u ∷ us) a c q l =
 
 pub log-step : (n : ℕ) (b : List ℕ) (h : Header) (fs : List Span) (field : ℕ) (f : Span) (r : Reading)
     → log-from (suc n) b h fs field f r
-      ≡ unless (log-checks (h .end) fs field f)
-          (then (log-entries (entries-in (f .size)) b (h .count) f 0 r) (log-goes (log-from n b h) b fs f))
+    ≡ unless (log-checks (h .end) fs field f)
+    (then (log-entries (entries-in (f .size)) b (h .count) f 0 r) (log-goes (log-from n b h) b fs f))
 unfolding log-from
 log-step n b h fs field f r = refl
 
@@ -214,8 +214,8 @@ log-reads (suc n) b h fs field f [] used ts pending t us c i p l a k q u o =
 log-reads (suc n) b h fs field f (g ∷ gs) used ts pending t us c i p l a k q u o =
     let (ts′, pending′, t′, us′, go, r, w, a′) = entries-on (entries-in (f .size)) b (h .count) f 0 ts pending t us (log-row b (g ∷ gs) used) a k q (row-some b g gs used o) in
     log-more n b h fs field f g gs used ts pending t us ts′ pending′ t′ us′ (c .0) (i .0) p go w
-      (log-reads n b h (fs ++ (f ∷ [])) (log-next f) g gs used ts′ pending′ t′ us′ (c .1) (i .1)
-        (subst (λ x. Pairwise Apart (header-span ∷ x)) (sym (append-assoc fs (f ∷ []) (g ∷ gs))) p) (omega arith) a′ (ap length w ∙ k) r u o)
+    (log-reads n b h (fs ++ (f ∷ [])) (log-next f) g gs used ts′ pending′ t′ us′ (c .1) (i .1)
+    (subst (λ x. Pairwise Apart (header-span ∷ x)) (sym (append-assoc fs (f ∷ []) (g ∷ gs))) p) (omega arith) a′ (ap length w ∙ k) r u o)
   where
     log-more : (n : ℕ) (b : List ℕ) (h : Header) (fs : List Span) (field : ℕ) (f g : Span) (gs : List Span) (used : ℕ)
         (ts : List (List Entry)) (pending t : List Entry) (us ts′ : List (List Entry)) (pending′ t′ : List Entry) (us′ : List (List Entry))
@@ -242,12 +242,12 @@ logs-with b h (f ∷ fs) [] used l o = absurd (let x : _≡_ {A = ℕ} 0 (h .cou
 logs-with b h (f ∷ fs) (t ∷ ts) used l o =
     let e : f ≡ h .log = l .part .chain .0 in
     let q : log-row b (f ∷ fs) used ≡ left [] t ts
-        = l .part .row ∙ append-nil (flat (map closed (t ∷ ts))) ∙ append-assoc t (sentinel t ∷ []) (flat (map closed ts)) in
+    = l .part .row ∙ append-nil (flat (map closed (t ∷ ts))) ∙ append-assoc t (sentinel t ∷ []) (flat (map closed ts)) in
     let a : Ahead [] [] t ts = record {
-          lists = l .part .lists .0;
-          later = l .part .lists .1;
-          rising = subst (λ x. Rising [] x) (append-nil (flat (t ∷ ts))) (l .part .rising);
-        } in
+      lists = l .part .lists .0;
+      later = l .part .lists .1;
+      rising = subst (λ x. Rising [] x) (append-nil (flat (t ∷ ts))) (l .part .rising);
+    } in
     ap (λ x. log-from 2048 b h [] 0xA0 x (reading [] [])) (sym e)
     ∙ log-reads 2048 b h [] 0xA0 f fs used [] [] t ts (l .part .chain .1) (l .part .inside) (l .part .apart) (l .part .few) a (l .finished) q (l .part .places) (l .ends)
 

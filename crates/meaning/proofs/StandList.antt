@@ -143,7 +143,7 @@ list-either : (n : ℕ) (b : List ℕ) (end count : ℕ) (ls : List NodeList) (b
     → Inside 36 end f → Marked b id (length fs) f → 16 ≤ id → Pairwise Apart (header-span ∷ ((before ++ fs) ++ (f ∷ []))) → length ns < count
     → nodes-at (count - length ns) b id (nodes-to f) (nodes-from f) ns ≡ done a → list-goes (list-from n b end count ls before id) b id f fs a ≡ done g
     → ((ms : List Node) → length ms < count → list-from n b end count ls before id (nodes-to f) (span-at b (nodes-to f)) (fs ++ (f ∷ [])) ms ≡ done g
-        → List-stands n b end count before id (span-at b (nodes-to f)) (fs ++ (f ∷ [])) ms g)
+    → List-stands n b end count before id (span-at b (nodes-to f)) (fs ++ (f ∷ [])) ms g)
     → List-stands (suc n) b end count before id f fs ns g
 list-either n b end count ls before id field f fs ns g (counted ms q) i m r p d e k ih =
     let w : list-is id (fs ++ (f ∷ [])) ms q ≡ g = cc in
@@ -162,8 +162,8 @@ list-stands (suc n) b end count ls before id field f fs ns g u p e =
     let (m, r) = passes-marked b id (length fs) f (c .1 .1 .0) in
     let p′ : Pairwise Apart (header-span ∷ ((before ++ fs) ++ (f ∷ []))) = pairs-push (header-span ∷ (before ++ fs)) f p (overlaps-apart f (before ++ fs) (c .1 .0)) in
     list-either n b end count ls before id field f fs ns g a (inside 36 end f (c .0)) m r p′ (due count fs ns u (c .1 .1 .1 .1 .0)) x y
-      (λ ms v k. list-stands n b end count ls before id (nodes-to f) (span-at b (nodes-to f)) (fs ++ (f ∷ [])) ms g (inl v)
-        (subst (λ z. Pairwise Apart (header-span ∷ z)) (append-assoc before fs (f ∷ [])) p′) k)
+    (λ ms v k. list-stands n b end count ls before id (nodes-to f) (span-at b (nodes-to f)) (fs ++ (f ∷ [])) ms g (inl v)
+    (subst (λ z. Pairwise Apart (header-span ∷ z)) (append-assoc before fs (f ∷ [])) p′) k)
 
 -- the ID is new
 pub list-new : (n : ℕ) (b : List ℕ) (end count : ℕ) (ls : List NodeList) (before : List Span) (id field : ℕ) (f : Span) (g : NodeList)
@@ -197,8 +197,9 @@ pub list-fits : (n : ℕ) (b : List ℕ) (h : Header) (log : Log) (ls : List Nod
 list-fits n b h log ls before id field f g p e =
     let nil = append-nil before in
     let s = list-stands n b (h .end) (count-in (log .transactions) id) ls before id field f [] [] g (inr (refl, refl)) (subst (λ z. Pairwise Apart (header-span ∷ z)) (sym nil) p) e in
-    let count′ = s .count′ in
-    (subst (λ (g : NodeList). List-fits b h log before f n g) (sym (s .is))
-      (list-is-fit n b h log before id f (s .more) (s .nodes) (g .free) (s .spread) (s .inside′) (s .marks) (s .real)
-        (subst (λ z. Pairwise Apart (header-span ∷ (z ++ (f ∷ s .more)))) nil (s .apart)) (omega arith) (s .ends) (s .few)),
-     ap (λ (g : NodeList). g .id) (s .is))
+    let count′ = s .count′ in (
+      subst (λ (g : NodeList). List-fits b h log before f n g) (sym (s .is))
+          (list-is-fit n b h log before id f (s .more) (s .nodes) (g .free) (s .spread) (s .inside′) (s .marks) (s .real)
+          (subst (λ z. Pairwise Apart (header-span ∷ (z ++ (f ∷ s .more)))) nil (s .apart)) (omega arith) (s .ends) (s .few)),
+      ap (λ (g : NodeList). g .id) (s .is),
+    )

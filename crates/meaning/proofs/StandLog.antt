@@ -95,19 +95,20 @@ entered-none : (b : List ℕ) (count : ℕ) (f : Span) (i : ℕ) (ts : List (Lis
     → log-entries zero b count f i (reading ts pending) ≡ done a → Fair ts pending → Entered zero b count f i (row ts pending) a
 unfolding log-entries
 entered-none b count f i ts pending (unfinished r) e fair =
-    let q : reading ts pending ≡ r = grind arith in
-    (subst (λ (r : Reading). Fair (r .transactions) (r .pending)) q fair,
-      ap (λ (r : Reading). row (r .transactions) (r .pending)) (sym q) ∙ sym (append-nil (row ts pending)))
+    let q : reading ts pending ≡ r = grind arith in (
+      subst (λ (r : Reading). Fair (r .transactions) (r .pending)) q fair,
+      ap (λ (r : Reading). row (r .transactions) (r .pending)) (sym q) ∙ sym (append-nil (row ts pending)),
+    )
 entered-none b count f i ts pending (finished us u) e fair = absurd (grind arith)
 
 -- one entry: a sentinel that ends the log, or one that does not, or a count
 abbrev One : ℕ → List ℕ → ℕ → Span → ℕ → List (List Entry) → List Entry → LogPart → Type 0
 One n b count f i ts pending a =
     ((entry-at b (entry-place f i) ≡ sentinel pending)
-      × (((length (ts ++ (pending ∷ [])) ≡ count) × (done (finished (ts ++ (pending ∷ [])) (i + 1)) ≡ done a))
-        ⊎ (log-entries n b count f (i + 1) (reading (ts ++ (pending ∷ [])) []) ≡ done a)))
+    × (((length (ts ++ (pending ∷ [])) ≡ count) × (done (finished (ts ++ (pending ∷ [])) (i + 1)) ≡ done a))
+    ⊎ (log-entries n b count f (i + 1) (reading (ts ++ (pending ∷ [])) []) ≡ done a)))
     ⊎ ((entry-at b (entry-place f i) .source ≢ 1) × (latest (entry-at b (entry-place f i) .source) 0 (flat ts ++ pending) < entry-at b (entry-place f i) .number)
-      × (log-entries n b count f (i + 1) (reading ts (pending ++ (entry-at b (entry-place f i) ∷ []))) ≡ done a))
+    × (log-entries n b count f (i + 1) (reading ts (pending ++ (entry-at b (entry-place f i) ∷ []))) ≡ done a))
 
 one-entry : (n : ℕ) (b : List ℕ) (count : ℕ) (f : Span) (i : ℕ) (ts : List (List Entry)) (pending : List Entry) (a : LogPart)
     → log-entries (suc n) b count f i (reading ts pending) ≡ done a → One n b count f i ts pending a
@@ -198,7 +199,7 @@ log-none b h fs field f r g e = grind (arith, tells)
 log-either : (n : ℕ) (b : List ℕ) (h : Header) (fs : List Span) (field : ℕ) (f : Span) (before : List Entry) (g : Log) (a : LogPart)
     → Inside 12 (h .end) f → Pairwise Apart (header-span ∷ (fs ++ (f ∷ []))) → Entered (entries-in (f .size)) b (h .count) f 0 before a → log-goes (log-from n b h) b fs f a ≡ done g
     → ((r : Reading) → Fair (r .transactions) (r .pending) → log-from n b h (fs ++ (f ∷ [])) (log-next f) (span-at b (log-next f)) r ≡ done g
-        → Log-stands n b h (fs ++ (f ∷ [])) (span-at b (log-next f)) (row (r .transactions) (r .pending)) g)
+    → Log-stands n b h (fs ++ (f ∷ [])) (span-at b (log-next f)) (row (r .transactions) (r .pending)) g)
     → Log-stands (suc n) b h fs f before g
 log-either n b h fs field f before g (finished ts u) i p e k ih =
     let q : log-is (fs ++ (f ∷ [])) ts u ≡ g = cc in
@@ -214,8 +215,8 @@ log-stands (suc n) b h fs field f r g fair p e =
     let (a, x, y) = then-done (log-entries (entries-in (f .size)) b (h .count) f 0 r) (log-goes (log-from n b h) b fs f) g d in
     let p′ : Pairwise Apart (header-span ∷ (fs ++ (f ∷ []))) = pairs-push (header-span ∷ fs) f p (overlaps-apart f fs (c .1 .0)) in
     log-either n b h fs field f (row (r .transactions) (r .pending)) g a (inside 12 (h .end) f (c .0)) p′
-      (entries-stand (entries-in (f .size)) b (h .count) f 0 (r .transactions) (r .pending) a x fair) y
-      (λ r′ fair′ k. log-stands n b h (fs ++ (f ∷ [])) (log-next f) (span-at b (log-next f)) r′ g fair′ p′ k)
+    (entries-stand (entries-in (f .size)) b (h .count) f 0 (r .transactions) (r .pending) a x fair) y
+    (λ r′ fair′ k. log-stands n b h (fs ++ (f ∷ [])) (log-next f) (span-at b (log-next f)) r′ g fair′ p′ k)
 
 -- a log that was read is right
 pub logs-stand : (b : List ℕ) (h : Header) (g : Log) → log-from 2048 b h [] 0xA0 (h .log) (reading [] []) ≡ done g → Logs b h g

@@ -61,14 +61,16 @@ so-far-more b h log ls q qs l s e =
     let x = length-append before (l .fragments) in
     let y : length (log .fragments ++ list-fragments (ls ++ (l ∷ []))) ≡ length (before ++ l .fragments) = ap length w in
     let few = s .few in
-    let room = fit .few in
-    (record {
-      apart = subst (λ z. Pairwise Apart (header-span ∷ z)) (sym w) (fit .apart);
-      ids = ids-push ls l (s .ids) (subst (λ i. taken i ls ≡ false) (sym id) new);
-      order = order-more h ls q qs l (s .order) (fit .first);
-      few = omega arith;
-      stands = all-append (Stands b h log) ls (l ∷ []) (s .stands) (fit .stands, tt);
-    }, fit .first)
+    let room = fit .few in (
+      record {
+        apart = subst (λ z. Pairwise Apart (header-span ∷ z)) (sym w) (fit .apart);
+        ids = ids-push ls l (s .ids) (subst (λ i. taken i ls ≡ false) (sym id) new);
+        order = order-more h ls q qs l (s .order) (fit .first);
+        few = omega arith;
+        stands = all-append (Stands b h log) ls (l ∷ []) (s .stands) (fit .stands, tt);
+      },
+      fit .first,
+    )
 
 -- what reading lists says of them
 pub record Lists-stand (n : ℕ) (b : List ℕ) (h : Header) (log : Log) (qs : List Named) (ls g : List NodeList) : Type 0 where
@@ -99,10 +101,12 @@ lists-longer n b h log q qs ls g l e s =
       far = s .far;
       few-lists = omega arith;
       reached = λ r.
-        let here : Reached h g (first-of l) = subst (λ z. Reached h g z) (sym e) (r .0) in
-        (here, s .reached (all-append (λ (q : Named). Reached h g (q .1)) qs (named-by l) (r .1)
-          (all-from-in (λ (q : Named). Reached h g (q .1)) (named-by l) (λ p i.
-            by-node {l = l} has here (has-from-in (spans (named-by l)) (p .1) (in-map (λ (q : Named). q .1) (named-by l) p i))))));
+          let here : Reached h g (first-of l) = subst (λ z. Reached h g z) (sym e) (r .0) in (
+            here,
+            s .reached (all-append (λ (q : Named). Reached h g (q .1)) qs (named-by l) (r .1)
+                (all-from-in (λ (q : Named). Reached h g (q .1)) (named-by l) (λ p i.
+                by-node {l = l} has here (has-from-in (spans (named-by l)) (p .1) (in-map (λ (q : Named). q .1) (named-by l) p i))))),
+          );
     }
 
 -- lists that were read are right
@@ -112,6 +116,6 @@ lists-stand n b h log [] ls g s e = lists-over n b h log ls g s e
 lists-stand zero b h log (q ∷ qs) ls g s e = absurd (lists-none b h log q qs ls g e)
 lists-stand (suc n) b h log (q ∷ qs) ls g s e =
     let (l, y, z) = then-done (named-list b h log ls q (owner b (q .1))) (λ l. lists-from n b h log (qs ++ named-by l) (ls ++ (l ∷ []))) g
-        (sym (lists-step n b h log q qs ls) ∙ e) in
+    (sym (lists-step n b h log q qs ls) ∙ e) in
     let (s′, w) = so-far-more b h log ls q qs l s y in
     lists-longer n b h log q qs ls g l w (lists-stand n b h log (qs ++ named-by l) (ls ++ (l ∷ [])) g s′ z)
