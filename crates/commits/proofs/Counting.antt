@@ -9,16 +9,18 @@ use native.Mathlib.Omega.{arith}
 use lib.Dec.{eqb}
 use lib.ListN.{length}
 use Rattle.std.specs.shelf.Lists.{All}
-use Rattle.std.proofs.shelf.Lists.{append-assoc, append-nil, map-append}
-use Rattle.std.proofs.shelf.Tests.{cases-bool}
+use Rattle.std.proofs.shelf.Lists.{append-nil, map-append}
+use Rattle.std.proofs.shelf.Tests.{cases-bool, ne-eqb}
 use Rattle.std.proofs.shelf.Ways.{tells}
+use Rattle.std.proofs.shelf.Elements.{all-append, all-weaker}
 use Rattle.model.specs.declared.types.Entry.{Entry}
 use Rattle.model.specs.LogFragments.{entry}
 use Rattle.model.specs.Section.{NodeList, Section, flat, latest, count-in}
 use Rattle.model.specs.Means.{Pairwise, Counts-lists, Rising}
 use Rattle.model.specs.Layouts.{member, touch}
+use Rattle.meaning.proofs.Base.{all-front, pairs-split}
 use Rattle.commits.proofs.Ties.{map-instead}
-use Rattle.commits.proofs.Rows.{all-front, all-join, all-map, all-both, pair-front, pair-between}
+use Rattle.commits.proofs.Rows.{all-both, pair-between, flat-push}
 
 -- touched IDs --------------------------------------------------------------------------------------------------------
 
@@ -42,10 +44,7 @@ pub touch-other : (x id : ℕ) (ids : List ℕ) → x ≢ id → member x (touch
 touch-other x id ids n = elim (cases-bool (member id ids)) [
   | inl e ↦ rw e
   | inr e ↦
-      let q : eqb id x ≡ false = elim (cases-bool (eqb id x)) [
-        | inl y ↦ absurd (n (grind (arith, tells)))
-        | inr y ↦ y
-      ] in
+      let q = ne-eqb id x (λ z. n (sym z)) in
       rw e (member-push x id ids ∙ rw q (elim (cases-bool (member x ids)) [
         | inl y ↦ rw y
         | inr y ↦ rw y
@@ -87,27 +86,27 @@ pub counts-push : (ts : List (List Entry)) (ids : List ℕ) (pre : List NodeList
     → l′ .id ≡ l .id → length (l′ .nodes) ≡ length (l .nodes) + 1 → All (Counts ts ids) (pre ++ (l ∷ post)) → All (Counts ts (touch (l .id) ids)) (pre ++ (l′ ∷ post))
 counts-push ts ids pre l l′ post d e n a =
     let (a0, a1) = all-front (Counts ts ids) pre (l ∷ post) a in
-    let (d0, d1, d2) = pair-front (λ l m. l .id ≢ m .id) pre (l ∷ post) d in
+    let (d0, d1, d2) = pairs-split (λ l m. l .id ≢ m .id) pre (l ∷ post) d in
     let c = counts-most ts ids l (a1 .0) in
     let own : Counts ts (touch (l .id) ids) l′ = inl (ap (λ z. member z (touch (l .id) ids)) e ∙ touch-same (l .id) ids, subst (λ z. count-in ts z < length (l′ .nodes)) (sym e) (omega arith)) in
-    all-join (Counts ts (touch (l .id) ids)) pre (l′ ∷ post)
-      (all-both (λ m. All (λ k. m .id ≢ k .id) (l ∷ post)) (Counts ts ids) (Counts ts (touch (l .id) ids)) pre (λ m u v. counts-other ts (l .id) ids m (u .0) v) d2 a0)
-      (own, all-both (λ m. l .id ≢ m .id) (Counts ts ids) (Counts ts (touch (l .id) ids)) post (λ m u v. counts-other ts (l .id) ids m (λ z. u (sym z)) v) (d1 .0) (a1 .1))
+    all-append (Counts ts (touch (l .id) ids)) pre (l′ ∷ post)
+    (all-both (λ m. All (λ k. m .id ≢ k .id) (l ∷ post)) (Counts ts ids) (Counts ts (touch (l .id) ids)) pre (λ m u v. counts-other ts (l .id) ids m (u .0) v) d2 a0)
+    (own, all-both (λ m. l .id ≢ m .id) (Counts ts ids) (Counts ts (touch (l .id) ids)) post (λ m u v. counts-other ts (l .id) ids m (λ z. u (sym z)) v) (d1 .0) (a1 .1))
 
 -- a new list comes
 pub counts-list : (ts : List (List Entry)) (ids : List ℕ) (ls : List NodeList) (l : NodeList) → All (λ m. m .id ≢ l .id) ls → count-in ts (l .id) < length (l .nodes) → All (Counts ts ids) ls
     → All (Counts ts (touch (l .id) ids)) (ls ++ (l ∷ []))
 counts-list ts ids ls l d n a =
-    all-join (Counts ts (touch (l .id) ids)) ls (l ∷ [])
-      (all-both (λ m. m .id ≢ l .id) (Counts ts ids) (Counts ts (touch (l .id) ids)) ls (λ m u v. counts-other ts (l .id) ids m u v) d a)
-      (inl (touch-same (l .id) ids, n), tt)
+    all-append (Counts ts (touch (l .id) ids)) ls (l ∷ [])
+    (all-both (λ m. m .id ≢ l .id) (Counts ts ids) (Counts ts (touch (l .id) ids)) ls (λ m u v. counts-other ts (l .id) ids m u v) d a)
+    (inl (touch-same (l .id) ids, n), tt)
 
 -- the entries of a commit ------------------------------------------------------------------------------------------------
 
 abbrev pub entries-for : (ℕ → ℕ) → List ℕ → List Entry
 entries-for count ids = map (λ id. entry id (count id)) ids
 
-latest-row : (id n : ℕ) (xs ys : List Entry) → latest id n (xs ++ ys) ≡ latest id (latest id n xs) ys
+pub latest-row : (id n : ℕ) (xs ys : List Entry) → latest id n (xs ++ ys) ≡ latest id (latest id n xs) ys
 unfolding latest
 latest-row id n [] ys = refl
 latest-row id n (x ∷ xs) ys = latest-row id (cond (eqb (x .source) id) (x .number) n) xs ys
@@ -132,14 +131,10 @@ latest-some count id n (x ∷ ids) e = elim (cases-bool (member id ids)) [
       ap (λ w. latest id (cond w (count x) n) (entries-for count ids)) y ∙ latest-none count id (count x) ids m ∙ ap count z
 ]
 
-flat-push : (ts : List (List Entry)) (t : List Entry) → flat (ts ++ (t ∷ [])) ≡ flat ts ++ t
-flat-push [] t = append-nil t
-flat-push (u ∷ ts) t = ap (λ z. u ++ z) (flat-push ts t) ∙ sym (append-assoc u (flat ts) t)
-
 count-after : (ts : List (List Entry)) (t : List Entry) (id : ℕ) → count-in (ts ++ (t ∷ [])) id ≡ latest id (count-in ts id) t
 count-after ts t id = ap (λ z. latest id 0 z) (flat-push ts t) ∙ latest-row id 0 (flat ts) t
 
--- COUNTED: after the commit's entries each list has its count of nodes
+-- after the commit's entries each list has its count of nodes
 pub counted-after : (ts : List (List Entry)) (ids : List ℕ) (count : ℕ → ℕ) (ls : List NodeList) → All (Counts ts ids) ls → All (λ l. count (l .id) ≡ length (l .nodes)) ls
     → All (λ l. length (l .nodes) ≡ count-in (ts ++ (entries-for count ids ∷ [])) (l .id)) ls
 counted-after ts ids count ls a c = all-both (Counts ts ids) (λ l. count (l .id) ≡ length (l .nodes)) (λ l. length (l .nodes) ≡ count-in (ts ++ (entries-for count ids ∷ [])) (l .id)) ls one a c
@@ -151,19 +146,18 @@ counted-after ts ids count ls a c = all-both (Counts ts ids) (λ l. count (l .id
 latest-other : (id : ℕ) (before : List Entry) (e : Entry) → e .source ≢ id → latest id 0 (before ++ (e ∷ [])) ≡ latest id 0 before
 unfolding latest
 latest-other id before e n =
-    let q : eqb (e .source) id ≡ false = elim (cases-bool (eqb (e .source) id)) [
-      | inl y ↦ absurd (n (grind (arith, tells)))
-      | inr y ↦ y
-    ] in
+    let q = ne-eqb (e .source) id n in
     latest-row id 0 before (e ∷ []) ∙ ap (λ z. cond z (e .number) (latest id 0 before)) q
 
--- RISING: entries of distinct lists, each above the list's last
+-- entries of distinct lists, each above the list's last
 pub rising-entries : (before : List Entry) (count : ℕ → ℕ) (ids : List ℕ) → Pairwise (λ x y. x ≢ y) ids → All (λ id. latest id 0 before < count id) ids → Rising before (entries-for count ids)
 rising-entries before count [] p a = tt
-rising-entries before count (x ∷ ids) (p, ps) (a, as′) =
-    (a, rising-entries (before ++ (entry x (count x) ∷ [])) count ids ps
+rising-entries before count (x ∷ ids) (p, ps) (a, as′) = (
+  a,
+  rising-entries (before ++ (entry x (count x) ∷ [])) count ids ps
       (all-both (λ y. x ≢ y) (λ y. latest y 0 before < count y) (λ y. latest y 0 (before ++ (entry x (count x) ∷ [])) < count y) ids
-      (λ y n l. subst (λ z. z < count y) (sym (latest-other y before (entry x (count x)) n)) l) p as′))
+      (λ y n l. subst (λ z. z < count y) (sym (latest-other y before (entry x (count x)) n)) l) p as′),
+)
 
 pub counts-lists : (count : ℕ → ℕ) (ids : List ℕ) → All (λ id. 16 ≤ id) ids → Counts-lists (entries-for count ids)
 counts-lists count [] a = tt
@@ -179,7 +173,7 @@ pub record Counting (s : Section) (ids : List ℕ) (highest : ℕ) (ls : List No
 touch-all : (P : ℕ → Type 0) (id : ℕ) (ids : List ℕ) → P id → All P ids → All P (touch id ids)
 touch-all P id ids p a = elim (cases-bool (member id ids)) [
   | inl e ↦ rw e a
-  | inr e ↦ rw e (all-join P ids (id ∷ []) a (p, tt))
+  | inr e ↦ rw e (all-append P ids (id ∷ []) a (p, tt))
 ]
 
 member-left : (x : ℕ) (xs ys : List ℕ) → member x xs ≡ true → member x (xs ++ ys) ≡ true
@@ -214,7 +208,7 @@ counting-push s ids highest pre l l′ post d e n c =
       sources = c .sources;
     }
 
-latest-absent : (id highest n : ℕ) (es : List Entry) → highest < id → All (λ e. e .source ≤ highest) es → latest id n es ≡ n
+pub latest-absent : (id highest n : ℕ) (es : List Entry) → highest < id → All (λ e. e .source ≤ highest) es → latest id n es ≡ n
 unfolding latest
 latest-absent id highest n [] h a = refl
 latest-absent id highest n (e ∷ es) h (p, a) =
@@ -230,7 +224,7 @@ counting-list s ids highest ls l d e n c =
       once = touch-once (l .id) ids (c .once);
       known = subst (λ z. All (λ id. member id z ≡ true) (touch (l .id) ids)) (sym q) (touch-all (λ id. member id (map (λ l. l .id) ls ++ (l .id ∷ [])) ≡ true) (l .id) ids
           (member-right (l .id) (map (λ l. l .id) ls) (l .id ∷ []) (let w : eqb (l .id) (l .id) ≡ true = grind (arith, tells) in rw w))
-          (all-map (λ id. member id (map (λ l. l .id) ls) ≡ true) (λ id. member id (map (λ l. l .id) ls ++ (l .id ∷ [])) ≡ true) ids (λ id x. member-left id (map (λ l. l .id) ls) (l .id ∷ []) x) (c .known)));
-      counts = counts-list (s .log .transactions) ids ls l (all-map (λ m. m .id ≤ highest) (λ m. m .id ≢ l .id) ls (λ m x y. omega arith) d) (omega arith) (c .counts);
-      sources = all-map (λ e. e .source ≤ highest) (λ e. e .source ≤ highest + 1) (flat (s .log .transactions)) (λ e x. omega arith) (c .sources);
+          (all-weaker (λ id. member id (map (λ l. l .id) ls) ≡ true) (λ id. member id (map (λ l. l .id) ls ++ (l .id ∷ [])) ≡ true) (λ id x. member-left id (map (λ l. l .id) ls) (l .id ∷ []) x) ids (c .known)));
+      counts = counts-list (s .log .transactions) ids ls l (all-weaker (λ m. m .id ≤ highest) (λ m. m .id ≢ l .id) (λ m x y. omega arith) ls d) (omega arith) (c .counts);
+      sources = all-weaker (λ e. e .source ≤ highest) (λ e. e .source ≤ highest + 1) (λ e x. omega arith) (flat (s .log .transactions)) (c .sources);
     }

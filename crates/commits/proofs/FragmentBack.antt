@@ -26,9 +26,9 @@ fragment-back b p id number node h k l o =
     let gap : List ℕ = replicate (988 - length node) 0 in
     let tail : List ℕ = span-bytes nil ++ digits 8 last-mark in
     let s8 : Stored b (p + 8) (digits 4 id ++ (digits 4 number ++ (node ++ (gap ++ tail))))
-        = stored-next 8 b p (digits 8 first-mark) (digits 4 id ++ (digits 4 number ++ (node ++ (gap ++ tail)))) (length-digits 8 first-mark) o in
+    = stored-next 8 b p (digits 8 first-mark) (digits 4 id ++ (digits 4 number ++ (node ++ (gap ++ tail)))) (length-digits 8 first-mark) o in
     let s12 : Stored b (p + 8 + 4) (digits 4 number ++ (node ++ (gap ++ tail)))
-        = stored-next 4 b (p + 8) (digits 4 id) (digits 4 number ++ (node ++ (gap ++ tail))) (length-digits 4 id) s8 in
+    = stored-next 4 b (p + 8) (digits 4 id) (digits 4 number ++ (node ++ (gap ++ tail))) (length-digits 4 id) s8 in
     let e12 : p + 8 + 4 ≡ p + 12 = omega arith in
     let s12′ : Stored b (p + 12) (digits 4 number ++ (node ++ (gap ++ tail))) = rw e12 at s12 in
     let s16 : Stored b (p + 12 + 4) (node ++ (gap ++ tail)) = stored-next 4 b (p + 12) (digits 4 number) (node ++ (gap ++ tail)) (length-digits 4 number) s12′ in
@@ -36,17 +36,19 @@ fragment-back b p id number node h k l o =
     let s16′ : Stored b (p + 16) (node ++ (gap ++ tail)) = rw e16 at s16 in
     let sg : Stored b (p + 16 + length node) (gap ++ tail) = stored-next (length node) b (p + 16) node (gap ++ tail) refl s16′ in
     let st : Stored b (p + 16 + length node + (988 - length node)) tail
-        = stored-next (988 - length node) b (p + 16 + length node) gap tail (length-replicate (988 - length node) 0) sg in
+    = stored-next (988 - length node) b (p + 16 + length node) gap tail (length-replicate (988 - length node) 0) sg in
     let sm : Stored b (p + 16 + length node + (988 - length node) + 12) (digits 8 last-mark)
-        = stored-next 12 b (p + 16 + length node + (988 - length node)) (span-bytes nil) (digits 8 last-mark) (length-span-bytes nil) st in
+    = stored-next 12 b (p + 16 + length node + (988 - length node)) (span-bytes nil) (digits 8 last-mark) (length-span-bytes nil) st in
     let em : p + 16 + length node + (988 - length node) + 12 ≡ p + 1024 - 8 = omega arith in
-    let sm′ : Stored b (p + 1024 - 8) (digits 8 last-mark) = rw em at sm in
-    (record {
-      first = eight-stored b p first-mark (omega arith) (stored-front b p (digits 8 first-mark) (digits 4 id ++ (digits 4 number ++ (node ++ (gap ++ tail)))) o);
-      last = eight-stored b (p + 1024 - 8) last-mark (omega arith) sm′;
-      list = four-stored b (p + 8) id h (stored-front b (p + 8) (digits 4 id) (digits 4 number ++ (node ++ (gap ++ tail))) s8);
-      sequence-number = four-stored b (p + 12) number k (stored-front b (p + 12) (digits 4 number) (node ++ (gap ++ tail)) s12′);
-    }, stored-front b (p + 16) node (gap ++ tail) s16′)
+    let sm′ : Stored b (p + 1024 - 8) (digits 8 last-mark) = rw em at sm in (
+      record {
+        first = eight-stored b p first-mark (omega arith) (stored-front b p (digits 8 first-mark) (digits 4 id ++ (digits 4 number ++ (node ++ (gap ++ tail)))) o);
+        last = eight-stored b (p + 1024 - 8) last-mark (omega arith) sm′;
+        list = four-stored b (p + 8) id h (stored-front b (p + 8) (digits 4 id) (digits 4 number ++ (node ++ (gap ++ tail))) s8);
+        sequence-number = four-stored b (p + 12) number k (stored-front b (p + 12) (digits 4 number) (node ++ (gap ++ tail)) s12′);
+      },
+      stored-front b (p + 16) node (gap ++ tail) s16′,
+    )
 
 -- log entries --------------------------------------------------------------------------------------------------------
 

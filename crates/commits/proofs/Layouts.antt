@@ -10,25 +10,30 @@ use lib.Dec.{eqb, leb}
 use lib.ListN.{length, replicate}
 use Rattle.std.specs.shelf.Lists.{All}
 use Rattle.std.proofs.shelf.Lists.{length-append, getD-append-left}
-use Rattle.std.proofs.shelf.Tests.{cases-bool}
+use Rattle.std.proofs.shelf.Tests.{cases-bool, ne-eqb}
 use Rattle.std.proofs.shelf.Ways.{tells}
+use Rattle.std.proofs.shelf.Elements.{all-append, all-weaker}
 use Rattle.model.specs.declared.types.Span.{Span}
 use Rattle.model.specs.declared.types.Header.{Header}
 use Rattle.model.specs.Bytes.{Write, put, written, applied, behind}
 use Rattle.model.specs.References.{span, span-bytes}
 use Rattle.model.specs.Headers.{header-span}
-use Rattle.model.specs.Nodes.{Node, referring}
+use Rattle.model.specs.Nodes.{Node}
 use Rattle.model.specs.ListFragments.{nodes-from, nodes-to, new-fragment}
 use Rattle.model.specs.Section.{NodeList, Section, last-of, list-fragments, first-of}
 use Rattle.model.specs.Means.{Pairwise, Spread, within, across}
 use Rattle.model.specs.Layouts.{Tail, tail, Layout, tail-of, member, touch, find-tail, with-tail, ending-at, more-fragments, touching}
-use Rattle.model.specs.Saving.{Plan, with-node}
-use Rattle.commits.specs.Body.{Right, Body, with-one, with-fragment, last-fragment, up-to}
+use Rattle.model.specs.Saving.{Plan, with-node, fitting, spilling}
+use Rattle.model.specs.Laws.{last-fragment}
+use Rattle.meaning.proofs.Base.{all-front, Data-fits, references}
+use Rattle.commits.specs.Body.{Right, Body, with-one, with-fragment, up-to}
 use Rattle.commits.specs.Laid.{Laid}
 use Rattle.commits.proofs.Sizes.{length-new-fragment}
-use Rattle.commits.proofs.Rows.{all-front, all-join, all-map, flat-instead}
-use Rattle.commits.proofs.NodeAdded.{Made, ended}
-use Rattle.commits.proofs.Bodies.{Kept, Data-fits, body-fits, body-spill, last-push, row-old}
+use Rattle.commits.proofs.Store.{applied-row}
+use Rattle.commits.proofs.Rows.{flat-instead, last-push}
+use Rattle.commits.proofs.NodeAdded.{Made, ended, spilt}
+use Rattle.commits.proofs.Bodies.{body-fits, body-spill, row-old}
+use Rattle.commits.proofs.Around.{Kept}
 
 -- the list of a tail -------------------------------------------------------------------------------------------------
 
@@ -54,34 +59,26 @@ found (l ∷ ls) id e = elim (cases-bool (eqb (l .id) id)) [
 tails-other : (t : Tail) (ms : List NodeList) → All (λ m. t .id ≢ m .id) ms → with-tail t (map tail-of ms) ≡ map tail-of ms
 tails-other t [] a = refl
 tails-other t (m ∷ ms) (p, a) =
-    let e : eqb (m .id) (t .id) ≡ false = elim (cases-bool (eqb (m .id) (t .id))) [
-      | inl x ↦ absurd (p (grind (arith, tells)))
-      | inr x ↦ x
-    ] in
+    let e = ne-eqb (m .id) (t .id) (λ z. p (sym z)) in
     rw e (ap (λ z. tail-of m ∷ z) (tails-other t ms a))
 
 tails-with : (l′ : NodeList) (pre : List NodeList) (l : NodeList) (post : List NodeList) → l′ .id ≡ l .id → Pairwise (λ l m. l .id ≢ m .id) (pre ++ (l ∷ post))
     → with-tail (tail-of l′) (map tail-of (pre ++ (l ∷ post))) ≡ map tail-of (pre ++ (l′ ∷ post))
 tails-with l′ [] l post e (a, p) =
     let x : eqb (l .id) (l′ .id) ≡ true = grind (arith, tells) in
-    rw x (ap (λ z. tail-of l′ ∷ z) (tails-other (tail-of l′) post (all-map (λ m. l .id ≢ m .id) (λ m. l′ .id ≢ m .id) post (λ m q r. q (sym e ∙ r)) a)))
+    rw x (ap (λ z. tail-of l′ ∷ z) (tails-other (tail-of l′) post (all-weaker (λ m. l .id ≢ m .id) (λ m. l′ .id ≢ m .id) (λ m q r. q (sym e ∙ r)) post a)))
 tails-with l′ (k ∷ pre) l post e (a, p) =
     let (u, v) = all-front (λ m. k .id ≢ m .id) pre (l ∷ post) a in
     let d = v .0 in
-    let x : eqb (k .id) (l′ .id) ≡ false = elim (cases-bool (eqb (k .id) (l′ .id))) [
-      | inl y ↦ absurd (d (let z : k .id ≡ l′ .id = grind (arith, tells) in z ∙ e))
-      | inr y ↦ y
-    ] in
+    let x = ne-eqb (k .id) (l′ .id) (λ z. d (z ∙ e)) in
     rw x (ap (λ z. tail-of k ∷ z) (tails-with l′ pre l post e p))
 
 -- what is planned --------------------------------------------------------------------------------------------------------
 
-abbrev fitting : Layout → ℕ → List ℕ → Tail → Plan
-fitting y id new t = record { layout = touching (tail id (t .fragment) (t .number) (t .free + length new) (t .count + 1)) y; writes = put (t .free) new ∷ [] }
-
 abbrev padding : ℕ → List ℕ
 padding k = replicate ((8 - k % 8) % 8) 0
 
+-- the plan for a node that goes into a new fragment, the k-th of its list
 abbrev spilling-at : Layout → ℕ → List ℕ → Tail → ℕ → Plan
 spilling-at y id new t k =
     let nf = new-fragment id k new in
@@ -90,9 +87,6 @@ spilling-at y id new t k =
       layout = touching (tail id (span (y .end) 1024) k (nodes-from (span (y .end) 1024) + length new) (t .count + 1)) (more-fragments (ending-at (behind piece) y));
       writes = piece ∷ (ended (t .free) (nodes-to (t .fragment)) ++ (put (nodes-to (t .fragment)) (span-bytes (span (y .end) 1024)) ∷ []));
     }
-
-abbrev spilling : Layout → ℕ → List ℕ → Tail → Plan
-spilling y id new t = spilling-at y id new t (t .number + 1)
 
 with-fits : (y : Layout) (id : ℕ) (new : List ℕ) (t : Tail) → find-tail (y .tails) id ≡ t → leb (t .free + length new) (nodes-to (t .fragment)) ≡ true → with-node y id new ≡ fitting y id new t
 with-fits y id new t e f = rw (e, f)
@@ -110,20 +104,22 @@ pub record Pushed (c : List ℕ) (s : Section) (y : Layout) (n : ℕ → Node) (
   pub laid : Laid (applied c (p .writes)) s (p .layout) (pre ++ (list ∷ post))
   pub rises : y .end ≤ p .layout .end
   pub kept : All (Kept c (applied c (p .writes))) (header-span ∷ s .log .fragments)
+  -- data is apart from all fragments
+  pub data-kept : (r : Span) → Data-fits (y .end) (s .log .fragments ++ list-fragments (pre ++ (l ∷ post))) r → Kept c (applied c (p .writes)) r
 
 -- a node that may be added to the lists
 pub record Addable (s : Section) (y : Layout) (ls : List NodeList) (new : List ℕ) (n : ℕ → Node) : Type 0 where
   pub made : Made new n
-  pub data-fits : (p : ℕ) → All (Data-fits (up-to (s .header) (y .end)) (s .log .fragments) ls) (map (λ m. m .reference) (referring 1 (n p ∷ [])))
+  pub data-fits : (p : ℕ) → All (Data-fits (y .end) (s .log .fragments ++ list-fragments ls)) (references (n p ∷ []))
 
 pushed-fits : (c : List ℕ) (s : Section) (y : Layout) (pre : List NodeList) (l : NodeList) (post : List NodeList) (new : List ℕ) (n : ℕ → Node)
-    → Laid c s y (pre ++ (l ∷ post)) → Addable s y (pre ++ (l ∷ post)) new n → l .free + length new ≤ nodes-to (last-fragment l)
+    → Laid c s y (pre ++ (l ∷ post)) → Addable s y (pre ++ (l ∷ post)) new n → l .free + length new ≤ nodes-to (last-fragment (l .fragments))
     → Pushed c s y n pre l post (fitting y (l .id) new (tail-of l))
 unfolding applied
 pushed-fits c s y pre l post new n d a k =
     let l′ : NodeList = with-one l (n (l .free)) (l .free + length new) in
-    let t : tail-of l′ ≡ tail (l .id) (last-fragment l) (length (l .fragments) - 1) (l .free + length new) (length (l .nodes) + 1)
-        = ap (λ z. tail (l .id) (last-fragment l) (length (l .fragments) - 1) (l .free + length new) z) (length-append (l .nodes) (n (l .free) ∷ [])) in
+    let t : tail-of l′ ≡ tail (l .id) (last-fragment (l .fragments)) (length (l .fragments) - 1) (l .free + length new) (length (l .nodes) + 1)
+    = ap (λ z. tail (l .id) (last-fragment (l .fragments)) (length (l .fragments) - 1) (l .free + length new) z) (length-append (l .nodes) (n (l .free) ∷ [])) in
     let e : list-fragments (pre ++ (l′ ∷ post)) ≡ list-fragments (pre ++ (l ∷ post)) = flat-instead (λ (m : NodeList). m .fragments) pre l l′ post refl in
     let (u, v) = all-front (λ m. m .id ≤ y .highest) pre (l ∷ post) (d .known) in
     let bd = body-fits c (up-to (s .header) (y .end)) (s .log .fragments) pre l post new n (a .made) (d .body) k (a .data-fits (l .free)) in
@@ -138,23 +134,19 @@ pushed-fits c s y pre l post new n d a k =
         tails = ap (λ z. with-tail z (y .tails)) (sym t) ∙ ap (λ z. with-tail (tail-of l′) z) (d .tails) ∙ tails-with l′ pre l post refl (d .body .ids-differ);
         lists = d .lists ∙ lengths l′;
         fragments = d .fragments ∙ ap (λ z. length (s .log .fragments ++ z)) (sym e);
-        known = all-join (λ m. m .id ≤ y .highest) pre (l′ ∷ post) u v;
+        known = all-append (λ m. m .id ≤ y .highest) pre (l′ ∷ post) u v;
       };
       rises = omega arith;
       kept = bd .1;
+      data-kept = bd .2;
     }
   where
     lengths : (l′ : NodeList) → length (pre ++ (l ∷ post)) ≡ length (pre ++ (l′ ∷ post))
     lengths l′ = length-append pre (l ∷ post) ∙ sym (length-append pre (l′ ∷ post))
 
-applied-row : (b : List ℕ) (xs ys : List Write) → applied b (xs ++ ys) ≡ applied (applied b xs) ys
+applied-spill : (b : List ℕ) (w : Write) (ws : List Write) (v : Write) → applied b (w ∷ (ws ++ (v ∷ []))) ≡ written (applied (written b (w .place) (w .new)) ws) (v .place) (v .new)
 unfolding applied
-applied-row b [] ys = refl
-applied-row b (w ∷ xs) ys = applied-row (written b (w .place) (w .new)) xs ys
-
-spilt : (b : List ℕ) (w : Write) (ws : List Write) (v : Write) → applied b (w ∷ (ws ++ (v ∷ []))) ≡ written (applied (written b (w .place) (w .new)) ws) (v .place) (v .new)
-unfolding applied
-spilt b w ws v = applied-row (written b (w .place) (w .new)) ws (v ∷ [])
+applied-spill b w ws v = applied-row (written b (w .place) (w .new)) ws (v ∷ [])
 
 spread-some : (b : List ℕ) {fs : List Span} {ns : List Node} {q : ℕ} → Spread b fs ns q → 1 ≤ length fs
 spread-some b (within h) = omega arith
@@ -198,8 +190,8 @@ pushed-spills c s y pre l post new n d a x1 x2 x3 =
     let len : length (l .nodes ++ (n (E + 16) ∷ [])) ≡ length (l .nodes) + 1 = length-append (l .nodes) (n (E + 16) ∷ []) in
     let t : tail-of l′ ≡ tail (l .id) fresh (length (l .fragments)) (E + 16 + length new) (length (l .nodes) + 1) = rw (last, num, len) in
     let q : applied c (spilling-at y (l .id) new (tail-of l) (length (l .fragments)) .writes)
-        ≡ written (applied (written c E (nf ++ pad)) (ended (l .free) (nodes-to (last-fragment l)))) (nodes-to (last-fragment l)) (span-bytes fresh)
-        = spilt c (put E (nf ++ pad)) (ended (l .free) (nodes-to (last-fragment l))) (put (nodes-to (last-fragment l)) (span-bytes fresh)) in
+    ≡ spilt c E (nf ++ pad) (l .free) (nodes-to (last-fragment (l .fragments)))
+    = applied-spill c (put E (nf ++ pad)) (ended (l .free) (nodes-to (last-fragment (l .fragments)))) (put (nodes-to (last-fragment (l .fragments))) (span-bytes fresh)) in
     let bd = body-spill c h e gs pre l post new pad n (a .made) (d .body) (omega arith) (omega arith) (omega arith) (omega arith) (a .data-fits (E + 16)) in
     record {
       list = l′;
@@ -212,24 +204,25 @@ pushed-spills c s y pre l post new n d a x1 x2 x3 =
         tails = ap (λ z. with-tail z (y .tails)) (sym t) ∙ ap (λ z. with-tail (tail-of l′) z) (d .tails) ∙ tails-with l′ pre l post refl (d .body .ids-differ);
         lists = d .lists ∙ length-append pre (l ∷ post) ∙ sym (length-append pre (l′ ∷ post));
         fragments = omega arith;
-        known = all-join (λ m. m .id ≤ y .highest) pre (l′ ∷ post) u v;
+        known = all-append (λ m. m .id ≤ y .highest) pre (l′ ∷ post) u v;
       };
       rises = omega arith;
       kept = subst (λ z. All (Kept c z) (header-span ∷ gs)) (sym q) (bd .1);
+      data-kept = λ r x. subst (λ z. Kept c z r) (sym q) (bd .2 r x);
     }
 
--- NODE: a plan for a node, done, gives its list one node more
+-- a plan for a node, done, gives its list one node more
 pub node-pushed : (c : List ℕ) (s : Section) (y : Layout) (pre : List NodeList) (l : NodeList) (post : List NodeList) (new : List ℕ) (n : ℕ → Node)
     → Laid c s y (pre ++ (l ∷ post)) → Addable s y (pre ++ (l ∷ post)) new n → y .end < 2 ^ 64 → y .highest < 2 ^ 32 → y .fragments < 2 ^ 32
     → find-tail (y .tails) (l .id) ≡ tail-of l → Pushed c s y n pre l post (with-node y (l .id) new)
-node-pushed c s y pre l post new n d a x1 x2 x3 e = elim (cases-bool (leb (l .free + length new) (nodes-to (last-fragment l)))) [
+node-pushed c s y pre l post new n d a x1 x2 x3 e = elim (cases-bool (leb (l .free + length new) (nodes-to (last-fragment (l .fragments))))) [
   | inl f ↦ subst (λ p. Pushed c s y n pre l post p) (sym (with-fits y (l .id) new (tail-of l) e f)) (pushed-fits c s y pre l post new n d a (grind (arith, tells)))
   | inr f ↦
       let (r0, r1) = all-front (Right c (up-to (s .header) (y .end))) pre (l ∷ post) (d .body .lists) in
       let some = spread-some c (r1 .0 .part .spread) in
       let k : length (l .fragments) ≡ length (l .fragments) - 1 + 1 = omega arith in
       subst (λ p. Pushed c s y n pre l post p) (sym (with-spills y (l .id) new (tail-of l) e f))
-        (subst (λ k. Pushed c s y n pre l post (spilling-at y (l .id) new (tail-of l) k)) k (pushed-spills c s y pre l post new n d a x1 x2 x3))
+      (subst (λ k. Pushed c s y n pre l post (spilling-at y (l .id) new (tail-of l) k)) k (pushed-spills c s y pre l post new n d a x1 x2 x3))
 ]
 
 -- a node's plan keeps the highest ID, and touches its list

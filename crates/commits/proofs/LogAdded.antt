@@ -7,6 +7,7 @@ use native.Mathlib.Omega.{arith}
 use lib.ListN.{length}
 use Rattle.std.specs.shelf.Lists.{All}
 use Rattle.std.proofs.shelf.Lists.{append-assoc, append-nil, length-append}
+use Rattle.std.proofs.shelf.Elements.{all-append, all-weaker}
 use Rattle.model.specs.declared.types.Span.{Span}
 use Rattle.model.specs.declared.types.Entry.{Entry}
 use Rattle.model.specs.declared.types.Header.{Header}
@@ -18,7 +19,8 @@ use Rattle.model.specs.Section.{Log, flat, last-of}
 use Rattle.model.specs.Means.{Apart, Pairwise, Inside, Chain, entries-of, log-row, closed, Counts-lists, Rising, Logs}
 use Rattle.meaning.proofs.Frames.{le-in}
 use Rattle.meaning.proofs.Local.{span-local}
-use Rattle.commits.proofs.Rows.{all-join, all-map, pair-between}
+use Rattle.meaning.proofs.Members.{flat-append}
+use Rattle.commits.proofs.Rows.{pair-between, last-push, flat-push}
 
 -- frames -----------------------------------------------------------------------------------------------------------
 
@@ -94,13 +96,8 @@ rising-row : (before xs ys : List Entry) → Rising before xs → Rising (before
 rising-row before [] ys a c = subst (λ z. Rising z ys) (append-nil before) c
 rising-row before (x ∷ xs) ys (p, a) c = (p, rising-row (before ++ (x ∷ [])) xs ys a (subst (λ z. Rising z ys) (sym (append-assoc before (x ∷ []) xs)) c))
 
-flat-push : (ts : List (List Entry)) (t : List Entry) → flat (ts ++ (t ∷ [])) ≡ flat ts ++ t
-flat-push [] t = append-nil t
-flat-push (u ∷ ts) t = ap (λ z. u ++ z) (flat-push ts t) ∙ sym (append-assoc u (flat ts) t)
-
 closed-push : (ts : List (List Entry)) (t : List Entry) → flat (map closed (ts ++ (t ∷ []))) ≡ flat (map closed ts) ++ closed t
-closed-push [] t = append-nil (closed t)
-closed-push (u ∷ ts) t = ap (λ z. closed u ++ z) (closed-push ts t) ∙ sym (append-assoc (closed u) (flat (map closed ts)) (closed t))
+closed-push ts t = flat-append closed ts (t ∷ []) ∙ ap (λ z. flat (map closed ts) ++ z) (append-nil (closed t))
 
 rising-push : (ts : List (List Entry)) (t : List Entry) → Rising [] (flat ts ++ []) → Rising (flat ts) t → Rising [] (flat (ts ++ (t ∷ [])) ++ [])
 rising-push ts t a c =
@@ -127,9 +124,9 @@ split-log P [] h k = absurd (omega arith)
 split-log P (f ∷ gs) h k = k f gs
 
 inside-later : (end end′ : ℕ) (fs : List Span) → end ≤ end′ → All (Inside 12 end) fs → All (Inside 12 end′) fs
-inside-later end end′ fs h a = all-map (Inside 12 end) (Inside 12 end′) fs (λ f x. (x .0, omega (arith, x .1))) a
+inside-later end end′ fs h a = all-weaker (Inside 12 end) (Inside 12 end′) (λ f x. (x .0, omega (arith, x .1))) fs a
 
--- LOG, where the entries fit
+-- its entries fit
 pub log-fits : (b c : List ℕ) (h h′ : Header) (l : Log) (t : List Entry) → Logs b h l → Log-agree b c (l .fragments) (l .used) → h .end ≤ h′ .end → h′ .log ≡ h .log → h′ .count ≡ h .count + 1
     → Follows (l .transactions) t → l .used + length (closed t) ≤ entries-in (last-of (span 0 0) (l .fragments) .size)
     → entries-of c (last-of (span 0 0) (l .fragments)) (l .used) (length (closed t)) ≡ closed t
@@ -140,8 +137,8 @@ log-fits b c h h′ l t g a e r n w p q =
     let k = g .part in
     let some = log-some b h l g in
     let more : log-row c fs (l .used + length (closed t)) ≡ log-row c fs (l .used) ++ entries-of c (last-of (span 0 0) fs) (l .used) (length (closed t))
-        = split-log (λ z. log-row c z (l .used + length (closed t)) ≡ log-row c z (l .used) ++ entries-of c (last-of (span 0 0) z) (l .used) (length (closed t))) fs some
-          (λ f gs. row-more c (span 0 0) f gs (l .used) (length (closed t))) in
+    = split-log (λ z. log-row c z (l .used + length (closed t)) ≡ log-row c z (l .used) ++ entries-of c (last-of (span 0 0) z) (l .used) (length (closed t))) fs some
+    (λ f gs. row-more c (span 0 0) f gs (l .used) (length (closed t))) in
     let row : log-row c fs (l .used) ≡ flat (map closed ts) = sym (row-local b c (h .end) fs (l .used) (k .inside) a) ∙ k .row ∙ append-nil (flat (map closed ts)) in
     let len = length-append ts (t ∷ []) in
     record {
@@ -152,7 +149,7 @@ log-fits b c h h′ l t g a e r n w p q =
         few = k .few;
         places = p;
         row = more ∙ ap (λ z. z ++ entries-of c (last-of (span 0 0) fs) (l .used) (length (closed t))) row ∙ ap (λ z. flat (map closed ts) ++ z) q ∙ sym (closed-push ts t) ∙ sym (append-nil (flat (map closed (ts ++ (t ∷ [])))));
-        lists = all-join Counts-lists ts (t ∷ []) (k .lists) (w .lists, tt);
+        lists = all-append Counts-lists ts (t ∷ []) (k .lists) (w .lists, tt);
         pending-lists = tt;
         rising = rising-push ts t (k .rising) (w .rising);
       };
@@ -160,11 +157,7 @@ log-fits b c h h′ l t g a e r n w p q =
       ends = omega (arith, g .ends);
     }
 
-last-next : {A : Type 0} (d : A) (xs : List A) (x : A) → last-of d (xs ++ (x ∷ [])) ≡ x
-last-next d [] x = refl
-last-next d (y ∷ xs) x = last-next y xs x
-
--- LOG, where the entries go on in a new fragment
+-- its entries go on in a new fragment
 pub log-spills : (b c : List ℕ) (h h′ : Header) (l : Log) (t fit rest : List Entry) (x : Span) → Logs b h l → Log-agree b c (l .fragments) (l .used) → h .end ≤ h′ .end → h′ .log ≡ h .log → h′ .count ≡ h .count + 1
     → Follows (l .transactions) t → closed t ≡ fit ++ rest → l .used + length fit ≡ entries-in (last-of (span 0 0) (l .fragments) .size)
     → entries-of c (last-of (span 0 0) (l .fragments)) (l .used) (length fit) ≡ fit → span-at c (log-next (last-of (span 0 0) (l .fragments))) ≡ x
@@ -178,28 +171,28 @@ log-spills b c h h′ l t fit rest x g a e r n w s p q y z u v i o m =
     let some = log-some b h l g in
     let full = entries-in (last-of d fs .size) in
     let next : log-row c (fs ++ (x ∷ [])) (length rest) ≡ log-row c fs (entries-in (last-of d fs .size)) ++ entries-of c x 0 (length rest)
-        = split-log (λ w. log-row c (w ++ (x ∷ [])) (length rest) ≡ log-row c w (entries-in (last-of d w .size)) ++ entries-of c x 0 (length rest)) fs some (λ f gs. row-next c d f gs x (length rest)) in
+    = split-log (λ w. log-row c (w ++ (x ∷ [])) (length rest) ≡ log-row c w (entries-in (last-of d w .size)) ++ entries-of c x 0 (length rest)) fs some (λ f gs. row-next c d f gs x (length rest)) in
     let more : log-row c fs (l .used + length fit) ≡ log-row c fs (l .used) ++ entries-of c (last-of d fs) (l .used) (length fit)
-        = split-log (λ w. log-row c w (l .used + length fit) ≡ log-row c w (l .used) ++ entries-of c (last-of d w) (l .used) (length fit)) fs some (λ f gs. row-more c d f gs (l .used) (length fit)) in
+    = split-log (λ w. log-row c w (l .used + length fit) ≡ log-row c w (l .used) ++ entries-of c (last-of d w) (l .used) (length fit)) fs some (λ f gs. row-more c d f gs (l .used) (length fit)) in
     let row : log-row c fs (l .used) ≡ flat (map closed ts) = sym (row-local b c (h .end) fs (l .used) (k .inside) a) ∙ k .row ∙ append-nil (flat (map closed ts)) in
     let upto : log-row c fs (entries-in (last-of d fs .size)) ≡ flat (map closed ts) ++ fit
-        = ap (λ w. log-row c fs w) (sym p) ∙ more ∙ ap (λ w. w ++ entries-of c (last-of d fs) (l .used) (length fit)) row ∙ ap (λ w. flat (map closed ts) ++ w) q in
+    = ap (λ w. log-row c fs w) (sym p) ∙ more ∙ ap (λ w. w ++ entries-of c (last-of d fs) (l .used) (length fit)) row ∙ ap (λ w. flat (map closed ts) ++ w) q in
     let whole : log-row c (fs ++ (x ∷ [])) (length rest) ≡ flat (map closed ts) ++ closed t
-        = next ∙ ap (λ w. w ++ entries-of c x 0 (length rest)) upto ∙ ap (λ w. (flat (map closed ts) ++ fit) ++ w) z ∙ append-assoc (flat (map closed ts)) fit rest ∙ ap (λ w. flat (map closed ts) ++ w) (sym s) in
+    = next ∙ ap (λ w. w ++ entries-of c x 0 (length rest)) upto ∙ ap (λ w. (flat (map closed ts) ++ fit) ++ w) z ∙ append-assoc (flat (map closed ts)) fit rest ∙ ap (λ w. flat (map closed ts) ++ w) (sym s) in
     let k1 : Chain (λ f. span-at c (log-next f)) (h′ .log) fs = subst (λ w. Chain (λ f. span-at c (log-next f)) w fs) (sym r) (chain-local b c (h .end) (h .log) fs (l .used) (k .inside) a (k .chain)) in
     let k2 : Chain (λ f. span-at c (log-next f)) (h′ .log) (fs ++ (x ∷ []))
-        = split-log (λ w. Chain (λ f. span-at c (log-next f)) (h′ .log) w → span-at c (log-next (last-of d w)) ≡ x → Chain (λ f. span-at c (log-next f)) (h′ .log) (w ++ (x ∷ []))) fs some
-          (λ f gs ch eq. chain-next c d (h′ .log) f gs x ch eq) k1 y in
+    = split-log (λ w. Chain (λ f. span-at c (log-next f)) (h′ .log) w → span-at c (log-next (last-of d w)) ≡ x → Chain (λ f. span-at c (log-next f)) (h′ .log) (w ++ (x ∷ []))) fs some
+    (λ f gs ch eq. chain-next c d (h′ .log) f gs x ch eq) k1 y in
     let len = length-append ts (t ∷ []) in
     record {
       part = record {
         chain = k2;
-        inside = all-join (Inside 12 (h′ .end)) fs (x ∷ []) (inside-later (h .end) (h′ .end) fs e (k .inside)) (i, tt);
+        inside = all-append (Inside 12 (h′ .end)) fs (x ∷ []) (inside-later (h .end) (h′ .end) fs e (k .inside)) (i, tt);
         apart = pair-between Apart (header-span ∷ fs) x [] (subst (λ w. Pairwise Apart w) (sym (append-nil (header-span ∷ fs))) (k .apart)) o tt;
         few = omega (arith, length-append fs (x ∷ []));
-        places = subst (λ w. length rest ≤ entries-in (w .size)) (sym (last-next d fs x)) v;
+        places = subst (λ w. length rest ≤ entries-in (w .size)) (sym (last-push d fs x)) v;
         row = whole ∙ sym (closed-push ts t) ∙ sym (append-nil (flat (map closed (ts ++ (t ∷ [])))));
-        lists = all-join Counts-lists ts (t ∷ []) (k .lists) (w .lists, tt);
+        lists = all-append Counts-lists ts (t ∷ []) (k .lists) (w .lists, tt);
         pending-lists = tt;
         rising = rising-push ts t (k .rising) (w .rising);
       };

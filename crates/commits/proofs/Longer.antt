@@ -8,6 +8,7 @@ use native.Mathlib.Omega.{arith}
 use lib.ListN.{length}
 use Rattle.std.specs.shelf.Lists.{All}
 use Rattle.std.proofs.shelf.Lists.{append-assoc, append-nil, length-append}
+use Rattle.std.proofs.shelf.Elements.{all-append, all-weaker}
 use Rattle.model.specs.declared.types.Span.{Span}
 use Rattle.model.specs.declared.types.Header.{Header}
 use Rattle.model.specs.Bytes.{written}
@@ -17,40 +18,25 @@ use Rattle.model.specs.Nodes.{Node, referring}
 use Rattle.model.specs.ListFragments.{nodes-to, new-fragment}
 use Rattle.model.specs.Section.{NodeList, list-fragments}
 use Rattle.model.specs.Means.{Apart, Pairwise, within, data-spans}
+use Rattle.meaning.proofs.Members.{flat-append}
+use Rattle.meaning.proofs.Base.{references, all-front}
 use Rattle.commits.specs.Stored.{Stored}
-use Rattle.commits.specs.Around.{Around}
 use Rattle.commits.specs.Body.{Right, Body, up-to}
 use Rattle.commits.proofs.Sizes.{length-new-fragment}
 use Rattle.commits.proofs.Store.{length-written, stored-written, stored-front}
 use Rattle.commits.proofs.FragmentBack.{fragment-back}
-use Rattle.commits.proofs.Rows.{all-join, all-map, all-both, pair-between, flat-row}
-use Rattle.commits.proofs.PartKept.{part-kept, ahead-other}
-use Rattle.commits.proofs.NodeAdded.{Made, around-none, around-past}
-use Rattle.commits.proofs.Bodies.{all-by-end, past-apart, references}
+use Rattle.commits.proofs.Rows.{all-both, pair-between}
+use Rattle.commits.proofs.NodeAdded.{Made}
+use Rattle.commits.proofs.Bodies.{all-by-end, past-apart}
+use Rattle.commits.proofs.Around.{past-kept}
+use Rattle.commits.proofs.SameRow.{body-same}
 
--- nothing of the old file is written: a fragment of no bytes
-all-apart : (fs : List Span) → All (Apart (span 0 0)) fs
-all-apart [] = tt
-all-apart (f ∷ fs) = ((λ i x y. omega (arith, x .1)), all-apart fs)
-
-rights-kept : (b c : List ℕ) (h h′ : Header) (ms : List NodeList) → Around b c (h .end) (span 0 0) 16 → h .end ≤ h′ .end → All (Right b h) ms → All (Right c h′) ms
-rights-kept b c h h′ ms o k r = all-map (Right b h) (Right c h′) ms
-    (λ m y. record { part = part-kept b c h h′ (span 0 0) 16 (m .id) (m .fragments) (m .nodes) (m .free) o k (ahead-other (span 0 0) 16 (m .fragments) (m .free) (all-apart (m .fragments))) (y .part); ends = y .ends }) r
-
--- BODY, with any bytes behind its end
+-- the lists, with any bytes behind the end
 pub body-longer : (b : List ℕ) (h : Header) (e : ℕ) (gs : List Span) (ls : List NodeList) (new : List ℕ) → Body b h gs ls → h .end + length new ≡ e → Body (written b (h .end) new) (up-to h e) gs ls
 body-longer b h e gs ls new d k =
-    let o = around-past b b (h .end) (span 0 0) 16 (h .end) new (omega arith) (d .whole) (around-none b (h .end) (span 0 0) 16 (omega arith) (d .whole)) in
-    record {
-      whole = omega (arith, length-written b (h .end) new (d .whole));
-      least = omega (arith, d .least);
-      lists = rights-kept b (written b (h .end) new) h (up-to h e) ls o (omega arith) (d .lists);
-      ids-differ = d .ids-differ;
-      log-inside = all-map (λ f. end-of f ≤ h .end) (λ f. end-of f ≤ e) gs (λ f x. omega arith) (d .log-inside);
-      apart = d .apart;
-      data-inside = all-map (λ r. end-of r ≤ h .end) (λ r. end-of r ≤ e) (data-spans ls) (λ r x. omega arith) (d .data-inside);
-      data-apart = d .data-apart;
-    }
+    let lc = length-written b (h .end) new (d .whole) in
+    let a = all-front (λ f. end-of f ≤ h .end) gs (list-fragments ls) (all-by-end b h gs ls d .1) .1 in
+    body-same b (written b (h .end) new) h (up-to h e) gs ls d (omega arith) (omega arith) (past-kept b (h .end) new (list-fragments ls) (d .whole) a)
 
 -- a new list, of one node in one fragment
 abbrev pub new-list : ℕ → ℕ → Node → ℕ → NodeList
@@ -71,7 +57,7 @@ new-right b h id start new pad n m e r i s =
       ends = omega (arith, m .some);
     }
 
--- BODY, with a new list behind its end
+-- the lists and a new one behind the end
 pub body-list : (b : List ℕ) (h : Header) (e : ℕ) (gs : List Span) (ls : List NodeList) (id : ℕ) (new pad : List ℕ) (n : ℕ → Node)
     → Made new n → Body b h gs ls → h .end + 1024 + length pad ≡ e → 16 ≤ id → id < 2 ^ 32 → All (λ l. l .id ≢ id) ls → referring 1 (n (h .end + 16) ∷ []) ≡ []
     → Body (written b (h .end) (new-fragment id 0 new ++ pad)) (up-to h e) gs (ls ++ (new-list id (h .end) (n (h .end + 16)) (h .end + 16 + length new) ∷ []))
@@ -87,21 +73,20 @@ body-list b h e gs ls id new pad n m d k r i a w =
     let F : List Span = header-span ∷ (gs ++ list-fragments ls) in
     let by-end : All (λ f. end-of f ≤ E) F = all-by-end b h gs ls d in
     let x : header-span ∷ (gs ++ list-fragments (ls ++ (l ∷ []))) ≡ F ++ (fresh ∷ [])
-        = ap (λ z. header-span ∷ z) (ap (λ z. gs ++ z) (flat-row (λ (m : NodeList). m .fragments) ls (l ∷ [])) ∙ sym (append-assoc gs (list-fragments ls) (fresh ∷ []))) in
+    = ap (λ z. header-span ∷ z) (ap (λ z. gs ++ z) (flat-append (λ (m : NodeList). m .fragments) ls (l ∷ [])) ∙ sym (append-assoc gs (list-fragments ls) (fresh ∷ []))) in
     let y : data-spans (ls ++ (l ∷ [])) ≡ data-spans ls
-        = flat-row references ls (l ∷ []) ∙ ap (λ (z : List Node). data-spans ls ++ (map (λ m. m .reference) z ++ [])) w ∙ append-nil (data-spans ls) in
+    = flat-append (λ (l : NodeList). references (l .nodes)) ls (l ∷ []) ∙ ap (λ (z : List Node). data-spans ls ++ (map (λ m. m .reference) z ++ [])) w ∙ append-nil (data-spans ls) in
     let both : All (λ r. (end-of r ≤ E) × All (Apart r) F) (data-spans ls)
-        = all-both (λ r. end-of r ≤ E) (λ r. All (Apart r) F) (λ r. (end-of r ≤ E) × All (Apart r) F) (data-spans ls) (λ r x y. (x, y)) (d .data-inside) (d .data-apart) in
+    = all-both (λ r. end-of r ≤ E) (λ r. All (Apart r) F) (λ r. (end-of r ≤ E) × All (Apart r) F) (data-spans ls) (λ r x y. (x, y)) (d .data-inside) (d .data-apart) in
     record {
       whole = f .whole;
       least = f .least;
-      lists = all-join (Right c (up-to h e)) ls (l ∷ []) (f .lists) (new-right c (up-to h e) id E new pad n m (omega arith) r i s, tt);
+      lists = all-append (Right c (up-to h e)) ls (l ∷ []) (f .lists) (new-right c (up-to h e) id E new pad n m (omega arith) r i s, tt);
       ids-differ = pair-between (λ l m. l .id ≢ m .id) ls l [] (subst (λ z. Pairwise (λ l m. l .id ≢ m .id) z) (sym (append-nil ls)) (d .ids-differ)) a tt;
       log-inside = f .log-inside;
       apart = subst (λ z. Pairwise Apart z) (sym x) (pair-between Apart F fresh [] (subst (λ z. Pairwise Apart z) (sym (append-nil F)) (d .apart))
-          (all-map (λ f. end-of f ≤ E) (λ x. Apart x fresh) F (λ x y. past-apart E fresh x (omega arith) y) by-end) tt);
+          (all-weaker (λ f. end-of f ≤ E) (λ x. Apart x fresh) (λ x y. past-apart E fresh x (omega arith) y) F by-end) tt);
       data-inside = subst (λ z. All (λ r. end-of r ≤ e) z) (sym y) (f .data-inside);
       data-apart = subst (λ z. All (λ r. All (Apart r) (header-span ∷ (gs ++ list-fragments (ls ++ (l ∷ []))))) z) (sym y)
-          (all-map (λ r. (end-of r ≤ E) × All (Apart r) F) (λ r. All (Apart r) (header-span ∷ (gs ++ list-fragments (ls ++ (l ∷ []))))) (data-spans ls)
-          (λ r z. subst (λ v. All (Apart r) v) (sym x) (all-join (Apart r) F (fresh ∷ []) (z .1) (past-apart E fresh r (omega arith) (z .0), tt))) both);
+          (all-weaker (λ r. (end-of r ≤ E) × All (Apart r) F) (λ r. All (Apart r) (header-span ∷ (gs ++ list-fragments (ls ++ (l ∷ []))))) (λ r z. subst (λ v. All (Apart r) v) (sym x) (all-append (Apart r) F (fresh ∷ []) (z .1) (past-apart E fresh r (omega arith) (z .0), tt))) (data-spans ls) both);
     }

@@ -1,7 +1,7 @@
 -- One node more in a list: the bytes after the writes, and the list in them. It fits, or it goes into a new fragment.
 -- Assumes nothing.
 use Prim.Native.Nat.{ℕ, _+_, _^_, _<_, _≤_}
-use mathlib.Core.Path.{_≡_, refl, sym, _∙_}
+use mathlib.Core.Path.{_≡_, sym, _∙_}
 use mathlib.Core.Logic.{inl, inr}
 use mathlib.Core.Bool.{true, false, cond}
 use mathlib.Core.List.{List, [], _∷_, _++_}
@@ -22,10 +22,11 @@ use Rattle.model.specs.Means.{Apart, Pairwise, Good, List-part}
 use Rattle.commits.specs.Stored.{Stored}
 use Rattle.commits.specs.Around.{Around}
 use Rattle.commits.proofs.Sizes.{length-digits, length-span-bytes, length-plain, length-referring, length-new-fragment}
-use Rattle.commits.proofs.Store.{length-written, written-below, written-above, same-written, stored-written, stored-same, stored-front, span-stored}
+use Rattle.commits.proofs.Store.{length-written, same-written, stored-written, stored-same, stored-front, span-stored}
 use Rattle.commits.proofs.NodeBack.{Fair, plain-of, referring-of, plain-good, referring-good, terminator-hands, narrow-hands}
 use Rattle.commits.proofs.FragmentBack.{fragment-back}
 use Rattle.commits.proofs.PartKept.{part-kept, part-push, part-spill, ahead-own, spread-ends}
+use Rattle.commits.proofs.Around.{around-none, around-in, around-past}
 
 -- bytes that are a node, which depends on its place only
 pub record Made (new : List ℕ) (n : ℕ → Node) : Type 0 where
@@ -55,44 +56,15 @@ referring-made id base r payload f j l k u w =
       some = omega arith;
     }
 
--- writes around a fragment -----------------------------------------------------------------------------------------------
-
-pub around-none : (b : List ℕ) (end : ℕ) (g : Span) (lo : ℕ) → nodes-from g ≤ lo → end ≤ length b → Around b b end g lo
-around-none b end g lo h k = record { kept = λ i x y. refl; from = h; before = k; after = k }
-
--- a write in the room
-pub around-in : (b c : List ℕ) (end : ℕ) (g : Span) (lo p : ℕ) (new : List ℕ) → lo ≤ p → p + length new + 8 ≤ end-of g → end-of g ≤ end → Around b c end g lo
-    → Around b (written c p new) end g lo
-around-in b c end g lo p new h k e o =
-    let a = o .after in
-    record {
-      kept = λ i x y. o .kept i x y ∙ sym (elim y [
-        | inl z ↦ written-below c p new i (omega arith) (omega arith)
-        | inr z ↦ written-above c p new i (omega arith) (omega arith)
-      ]);
-      from = o .from;
-      before = o .before;
-      after = omega (arith, length-written c p new (omega arith));
-    }
-
--- a write behind the end
-pub around-past : (b c : List ℕ) (end : ℕ) (g : Span) (lo p : ℕ) (new : List ℕ) → end ≤ p → p ≤ length c → Around b c end g lo → Around b (written c p new) end g lo
-around-past b c end g lo p new h k o = record {
-  kept = λ i x y. o .kept i x y ∙ sym (written-below c p new i k (omega arith));
-  from = o .from;
-  before = o .before;
-  after = omega (arith, o .after, length-written c p new k);
-}
-
 -- it fits ------------------------------------------------------------------------------------------------------------
 
 pub fits-list : (b : List ℕ) (h : Header) (id : ℕ) (fs : List Span) (ns : List Node) (q : ℕ) (new : List ℕ) (n : ℕ → Node)
     → Made new n → h .end ≤ length b → Pairwise Apart fs → List-part b h id fs ns q → q + length new ≤ nodes-to (last-of (span 0 0) fs)
-    → Around b (written b q new) (h .end) (last-of (span 0 0) fs) q × List-part (written b q new) h id fs (ns ++ (n q ∷ [])) (q + length new)
+    → Around b (written b q new) (h .end) (last-of (span 0 0) fs) q 16 8 × List-part (written b q new) h id fs (ns ++ (n q ∷ [])) (q + length new)
 fits-list b h id fs ns q new n m e a p k =
     let g = last-of (span 0 0) fs in
     let (x, y, z, w) = spread-ends b (h .end) (span 0 0) (p .spread) (p .inside) in
-    let o : Around b (written b q new) (h .end) g q = around-in b b (h .end) g q q new (omega arith) (omega arith) w (around-none b (h .end) g q x e) in
+    let o : Around b (written b q new) (h .end) g q 16 8 = around-in b b (h .end) g q 16 8 q new (omega arith) (omega arith) w (around-none b (h .end) g q 16 8 x e) in
     let s : Stored (written b q new) q new = stored-written b q new (omega arith) in
     let t : List-part (written b q new) h id fs ns q = part-kept b (written b q new) h h g q id fs ns q o (omega arith) (ahead-own (span 0 0) fs q a) p in
     (o, rw (← m .size q) (part-push (written b q new) h id fs ns q (n q) t (m .good (written b q new) (nodes-to g) q s k)))
@@ -103,9 +75,13 @@ fits-list b h id fs ns q new n m e a p k =
 abbrev pub ended : ℕ → ℕ → List Write
 ended q stop = cond (leb (q + 4) stop) (put q terminator ∷ []) []
 
+-- the row after a node went into a new fragment, the bytes of which are `piece`: it is written first, then the terminator, then the next reference
+abbrev pub spilt : List ℕ → ℕ → List ℕ → ℕ → ℕ → List ℕ
+spilt b end piece q stop = written (applied (written b end piece) (ended q stop)) stop (span-bytes (span end 1024))
+
 -- the row before the last write: around the fragment, the new fragment stands, and the old one hands over
 record Ready (b c : List ℕ) (end : ℕ) (g : Span) (q : ℕ) (piece : List ℕ) : Type 0 where
-  around : Around b c end g q
+  around : Around b c end g q 16 8
   stands : Stored c end piece
   hands : (c′ : List ℕ) → Same c c′ q (nodes-to g) → end ≤ length c′ → hands-over (le 4 c′ q) (nodes-to g) q ≡ true
 
@@ -115,19 +91,19 @@ ready-ended b end g q piece h j k l e =
     let c : List ℕ = written b end piece in
     let t4 = length-digits 4 0x800010FF in
     let lc = length-written b end piece e in
-    let o : Around b c end g q = around-past b b end g q end piece (omega arith) e (around-none b end g q h e) in
+    let o : Around b c end g q 16 8 = around-past b b end g q 16 8 end piece (omega arith) e (around-none b end g q 16 8 h e) in
     let s : Stored c end piece = stored-written b end piece e in
     let lc′ = length-written c q terminator (omega arith) in
     let w : Stored (written c q terminator) q terminator = stored-written c q terminator (omega arith) in
     record {
-      around = around-in b c end g q q terminator (omega arith) (omega arith) l o;
+      around = around-in b c end g q 16 8 q terminator (omega arith) (omega arith) l o;
       stands = stored-same c (written c q terminator) end piece (same-written c q terminator end (end + length piece) (omega arith) (inr (omega arith))) (omega arith) s;
       hands = λ c′ x v. terminator-hands c′ (nodes-to g) q (stored-same (written c q terminator) c′ q terminator (λ i y z. x i y (omega arith)) (omega arith) w);
     }
 
 ready-narrow : (b : List ℕ) (end : ℕ) (g : Span) (q : ℕ) (piece : List ℕ) → nodes-from g ≤ q → nodes-to g < q + 4 → end ≤ length b → Ready b (written b end piece) end g q piece
 ready-narrow b end g q piece h j e = record {
-  around = around-past b b end g q end piece (omega arith) e (around-none b end g q h e);
+  around = around-past b b end g q 16 8 end piece (omega arith) e (around-none b end g q 16 8 h e);
   stands = stored-written b end piece e;
   hands = λ c′ x v. narrow-hands (le 4 c′ q) (nodes-to g) q j;
 }
@@ -144,8 +120,8 @@ spill-from : (b c : List ℕ) (h h′ : Header) (id : ℕ) (fs : List Span) (ns 
     → Made new n → h .end + 1024 ≤ h′ .end → h .end < 2 ^ 64 → id < 2 ^ 32 → length fs < 2 ^ 32 → Pairwise Apart fs → List-part b h id fs ns q
     → Ready b c (h .end) (last-of (span 0 0) fs) q (new-fragment id (length fs) new ++ pad)
     → let c′ = written c (nodes-to (last-of (span 0 0) fs)) (span-bytes (span (h .end) 1024)) in
-      Around b c′ (h .end) (last-of (span 0 0) fs) q × (h .end + 1024 + length pad ≤ length c′)
-      × List-part c′ h′ id (fs ++ (span (h .end) 1024 ∷ [])) (ns ++ (n (h .end + 16) ∷ [])) (h .end + 16 + length new)
+    Around b c′ (h .end) (last-of (span 0 0) fs) q 16 8 × (h .end + 1024 + length pad ≤ length c′)
+    × List-part c′ h′ id (fs ++ (span (h .end) 1024 ∷ [])) (ns ++ (n (h .end + 16) ∷ [])) (h .end + 16 + length new)
 spill-from b c h h′ id fs ns q new pad n m e u i j a p r =
     let g = last-of (span 0 0) fs in
     let E = h .end in
@@ -161,7 +137,7 @@ spill-from b c h h′ id fs ns q new pad n m e u i j a p r =
     let lp : length (nf ++ pad) ≡ 1024 + length pad = length-append nf pad ∙ omega arith in
     let fit = r .stands .fits in
     let lc′ = length-written c stop ref (omega arith) in
-    let o : Around b c′ E g q = around-in b c E g q stop ref (omega arith) (omega arith) w (r .around) in
+    let o : Around b c′ E g q 16 8 = around-in b c E g q 16 8 stop ref (omega arith) (omega arith) w (r .around) in
     let s : Stored c′ E nf = stored-front c′ E nf pad (stored-same c c′ E (nf ++ pad) (same-written c stop ref E (E + length (nf ++ pad)) (omega arith) (inr (omega arith))) (omega arith) (r .stands)) in
     let (mk, st) = fragment-back c′ E id (length fs) new i j sh s in
     let v : span-at c′ stop ≡ fresh = span-stored c′ stop fresh u (omega arith) (stored-written c stop ref (omega arith)) in
@@ -172,10 +148,10 @@ spill-from b c h h′ id fs ns q new pad n m e u i j a p r =
 
 pub spill-list : (b : List ℕ) (h h′ : Header) (id : ℕ) (fs : List Span) (ns : List Node) (q : ℕ) (new pad : List ℕ) (n : ℕ → Node)
     → Made new n → h .end ≤ length b → h .end + 1024 ≤ h′ .end → h .end < 2 ^ 64 → id < 2 ^ 32 → length fs < 2 ^ 32 → Pairwise Apart fs → List-part b h id fs ns q
-    → let c = written (applied (written b (h .end) (new-fragment id (length fs) new ++ pad)) (ended q (nodes-to (last-of (span 0 0) fs)))) (nodes-to (last-of (span 0 0) fs)) (span-bytes (span (h .end) 1024)) in
-      Around b c (h .end) (last-of (span 0 0) fs) q × (h .end + 1024 + length pad ≤ length c)
-      × List-part c h′ id (fs ++ (span (h .end) 1024 ∷ [])) (ns ++ (n (h .end + 16) ∷ [])) (h .end + 16 + length new)
+    → let c = spilt b (h .end) (new-fragment id (length fs) new ++ pad) q (nodes-to (last-of (span 0 0) fs)) in
+    Around b c (h .end) (last-of (span 0 0) fs) q 16 8 × (h .end + 1024 + length pad ≤ length c)
+    × List-part c h′ id (fs ++ (span (h .end) 1024 ∷ [])) (ns ++ (n (h .end + 16) ∷ [])) (h .end + 16 + length new)
 spill-list b h h′ id fs ns q new pad n m l e u i j a p =
     let (x, y, z, w) = spread-ends b (h .end) (span 0 0) (p .spread) (p .inside) in
     spill-from b (applied (written b (h .end) (new-fragment id (length fs) new ++ pad)) (ended q (nodes-to (last-of (span 0 0) fs)))) h h′ id fs ns q new pad n m e u i j a p
-      (ready b (h .end) (last-of (span 0 0) fs) q (new-fragment id (length fs) new ++ pad) x z w l)
+    (ready b (h .end) (last-of (span 0 0) fs) q (new-fragment id (length fs) new ++ pad) x z w l)

@@ -57,9 +57,10 @@ referring-of p id base r payload = record { place = p; id = id; size = 16 + leng
 
 head-stored : (b : List ℕ) (p id size base : ℕ) (rest : List ℕ) → id < 1024 → size < 8192 → base ≤ 2 → Stored b p (node-head id size base ++ rest)
     → (le 4 b p ≡ head-number id size base) × Stored b (p + 4) rest
-head-stored b p id size base rest h k l o =
-    (four-stored b p (head-number id size base) (head-small id size base h k l) (stored-front b p (digits 4 (head-number id size base)) rest o),
-    stored-next 4 b p (digits 4 (head-number id size base)) rest (length-digits 4 (head-number id size base)) o)
+head-stored b p id size base rest h k l o = (
+  four-stored b p (head-number id size base) (head-small id size base h k l) (stored-front b p (digits 4 (head-number id size base)) rest o),
+  stored-next 4 b p (digits 4 (head-number id size base)) rest (length-digits 4 (head-number id size base)) o,
+)
 
 pub plain-reads : (b : List ℕ) (p id : ℕ) (payload : List ℕ) → id < 1024 → 4 + length payload ≤ 988 → Stored b p (plain-node id payload)
     → node-at b p ≡ plain-of p id payload
@@ -97,7 +98,7 @@ plain-good b stop p id payload (f, g, h) k l o =
 referring-parts : (b : List ℕ) (p id base : ℕ) (r : Span) (payload : List ℕ) → id < 1024 → (1 ≤ base) → base ≤ 2 → 16 + length payload ≤ 988 → r .start < 2 ^ 64 → r .size < 2 ^ 32
     → Stored b p (referring-node id base r payload)
     → (refers (base-bits (le 4 b p)) ≡ true) × (reference-width (le 4 b p) ≡ 12) × (span-in b (p + 4) (stp-bits (le 4 b p)) (cb-bits (le 4 b p)) ≡ r)
-      × (piece b (p + 16) (length payload) ≡ payload)
+    × (piece b (p + 16) (length payload) ≡ payload)
 unfolding by-format
 referring-parts b p id base r payload h j l k u w o =
     let size = 16 + length payload in

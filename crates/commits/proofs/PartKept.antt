@@ -10,7 +10,6 @@ use native.Mathlib.Omega.{arith}
 use lib.ListN.{length}
 use Rattle.std.specs.shelf.Lists.{All}
 use Rattle.std.proofs.shelf.Lists.{append-assoc}
-use Rattle.std.proofs.shelf.Tests.{cases-lt}
 use Rattle.model.specs.declared.types.Span.{Span}
 use Rattle.model.specs.declared.types.Header.{Header}
 use Rattle.model.specs.Bytes.{le, Same}
@@ -21,19 +20,12 @@ use Rattle.model.specs.Section.{last-of}
 use Rattle.model.specs.Means.{Apart, Pairwise, Inside, Good, Nodes, Spread, within, across, Marked, Numbered, List-part}
 use Rattle.meaning.proofs.Frames.{le-in}
 use Rattle.meaning.proofs.Local.{Agree, spread-local, nodes-inside, nodes-reach}
+use Rattle.meaning.proofs.Base.{apart-back}
 use Rattle.commits.specs.Around.{Around, Ahead}
+use Rattle.commits.proofs.Rows.{last-all}
+use Rattle.commits.proofs.Around.{other-same}
 
 -- frames -----------------------------------------------------------------------------------------------------------
-
--- a range that is apart from the fragment
-pub other-same : (b c : List ℕ) (end : ℕ) (g : Span) (lo : ℕ) → Around b c end g lo → (f : Span) → Apart g f → end-of f ≤ end → Same b c (f .start) (end-of f)
-other-same b c end g lo o f a h i l k = elim (cases-lt i lo) [
-  | inl x ↦ o .kept i (omega arith) (inl x)
-  | inr x ↦ elim (cases-lt (i + 8) (end-of g)) [
-    | inl y ↦ absurd (a i (omega (arith, o .from), omega arith) (l, k))
-    | inr y ↦ o .kept i (omega arith) (inr y)
-  ]
-]
 
 pub marked-same : (b c : List ℕ) (id number : ℕ) (f : Span) → 36 ≤ f .size → Same b c (f .start) (f .start + 16) → Same b c (end-of f - 8) (end-of f) → Marked b id number f → Marked c id number f
 marked-same b c id number f h s t m = record {
@@ -43,33 +35,33 @@ marked-same b c id number f h s t m = record {
   sequence-number = sym (le-in 4 b c (f .start) (f .start + 16) (f .start + 12) s (omega arith) (omega arith)) ∙ m .sequence-number;
 }
 
-marked-other : (b c : List ℕ) (end : ℕ) (g : Span) (lo : ℕ) → Around b c end g lo → (id number : ℕ) (f : Span) → Inside 36 end f → Apart g f → Marked b id number f → Marked c id number f
+marked-other : (b c : List ℕ) (end : ℕ) (g : Span) (lo : ℕ) → Around b c end g lo 16 8 → (id number : ℕ) (f : Span) → Inside 36 end f → Apart g f → Marked b id number f → Marked c id number f
 marked-other b c end g lo o id number f (h, k) a m =
-    let s = other-same b c end g lo o f a k in
+    let s = other-same b c end g lo 16 8 o f a k in
     marked-same b c id number f h (λ i l j. s i l (omega arith)) (λ i l j. s i (omega arith) j) m
 
-marked-own : (b c : List ℕ) (end : ℕ) (g : Span) (lo : ℕ) → Around b c end g lo → (id number : ℕ) → Inside 36 end g → Marked b id number g → Marked c id number g
+marked-own : (b c : List ℕ) (end : ℕ) (g : Span) (lo : ℕ) → Around b c end g lo 16 8 → (id number : ℕ) → Inside 36 end g → Marked b id number g → Marked c id number g
 marked-own b c end g lo o id number (h, k) m =
     marked-same b c id number g h
     (λ i l j. o .kept i (omega arith) (inl (omega (arith, o .from))))
     (λ i l j. o .kept i (omega arith) (inr (omega arith))) m
 
-pub numbered-kept : (b c : List ℕ) (end : ℕ) (g : Span) (lo : ℕ) → Around b c end g lo → (id i : ℕ) (fs : List Span) (q : ℕ) → All (Inside 36 end) fs → Ahead g lo fs q
+pub numbered-kept : (b c : List ℕ) (end : ℕ) (g : Span) (lo : ℕ) → Around b c end g lo 16 8 → (id i : ℕ) (fs : List Span) (q : ℕ) → All (Inside 36 end) fs → Ahead g lo fs q
     → Numbered b id i fs → Numbered c id i fs
 numbered-kept b c end g lo o id i [] q a h m = tt
 numbered-kept b c end g lo o id i (f ∷ []) q (a, as′) (inl (e, l)) (m, ms) = (rw e (marked-own b c end g lo o id i (rw e at a) (rw e at m)), tt)
 numbered-kept b c end g lo o id i (f ∷ []) q (a, as′) (inr h) (m, ms) = (marked-other b c end g lo o id i f a h m, tt)
 numbered-kept b c end g lo o id i (f ∷ (f′ ∷ fs)) q (a, as′) (h, hs) (m, ms) = (marked-other b c end g lo o id i f a h m, numbered-kept b c end g lo o id (i + 1) (f′ ∷ fs) q as′ hs ms)
 
-pub agree-kept : (b c : List ℕ) (end : ℕ) (g : Span) (lo : ℕ) → Around b c end g lo → (fs : List Span) (q : ℕ) → All (Inside 36 end) fs → q ≤ end-of (last-of (span 0 0) fs) → Ahead g lo fs q → Agree b c fs q
+pub agree-kept : (b c : List ℕ) (end : ℕ) (g : Span) (lo : ℕ) → Around b c end g lo 16 8 → (fs : List Span) (q : ℕ) → All (Inside 36 end) fs → q ≤ end-of (last-of (span 0 0) fs) → Ahead g lo fs q → Agree b c fs q
 agree-kept b c end g lo o [] q a u h = tt
 agree-kept b c end g lo o (f ∷ []) q ((x, y), as′) u (inl (e, l)) =
     ((λ i m k. o .kept i (omega arith) (inl (omega arith))), omega (arith, o .before), omega (arith, o .after))
 agree-kept b c end g lo o (f ∷ []) q ((x, y), as′) u (inr h) =
-    let s = other-same b c end g lo o f h y in
+    let s = other-same b c end g lo 16 8 o f h y in
     ((λ i m k. s i m (omega arith)), omega (arith, o .before), omega (arith, o .after))
 agree-kept b c end g lo o (f ∷ (f′ ∷ fs)) q ((x, y), as′) u (h, hs) =
-    let s = other-same b c end g lo o f h y in
+    let s = other-same b c end g lo 16 8 o f h y in
     ((s, omega (arith, o .before), omega (arith, o .after), x), agree-kept b c end g lo o (f′ ∷ fs) q as′ u hs)
 
 -- where the nodes of a chain end
@@ -83,8 +75,8 @@ pub inside-more : (end end′ : ℕ) (fs : List Span) → end ≤ end′ → All
 inside-more end end′ [] h a = tt
 inside-more end end′ (f ∷ fs) h ((x, y), a) = ((x, omega arith), inside-more end end′ fs h a)
 
--- PART: a list's part is kept, under a header with a later end
-pub part-kept : (b c : List ℕ) (h h′ : Header) (g : Span) (lo id : ℕ) (fs : List Span) (ns : List Node) (q : ℕ) → Around b c (h .end) g lo → h .end ≤ h′ .end → Ahead g lo fs q
+-- a list's part, under a header with a later end
+pub part-kept : (b c : List ℕ) (h h′ : Header) (g : Span) (lo id : ℕ) (fs : List Span) (ns : List Node) (q : ℕ) → Around b c (h .end) g lo 16 8 → h .end ≤ h′ .end → Ahead g lo fs q
     → List-part b h id fs ns q → List-part c h′ id fs ns q
 part-kept b c h h′ g lo id fs ns q o k a p =
     let (x, y, z, w) = spread-ends b (h .end) (span 0 0) (p .spread) (p .inside) in
@@ -102,18 +94,10 @@ ahead-other g lo [] q a = tt
 ahead-other g lo (f ∷ []) q (x, a) = inr x
 ahead-other g lo (f ∷ (f′ ∷ fs)) q (x, a) = (x, ahead-other g lo (f′ ∷ fs) q a)
 
--- the last of a list is one of it
-last-all : {A : Type 0} (P : A → Type 0) (d x : A) (xs : List A) → All P (x ∷ xs) → P (last-of d (x ∷ xs))
-last-all P d x [] (p, a) = p
-last-all P d x (y ∷ ys) (p, a) = last-all P x y ys a
-
-apart-sym : (f g : Span) → Apart f g → Apart g f
-apart-sym f g a i x y = a i y x
-
 pub ahead-own : (d : Span) (fs : List Span) (q : ℕ) → Pairwise Apart fs → Ahead (last-of d fs) q fs q
 ahead-own d [] q a = tt
 ahead-own d (f ∷ []) q a = inl (refl, omega arith)
-ahead-own d (f ∷ (f′ ∷ fs)) q (a, as′) = (apart-sym f (last-of f (f′ ∷ fs)) (last-all (Apart f) f f′ fs a), ahead-own f (f′ ∷ fs) q as′)
+ahead-own d (f ∷ (f′ ∷ fs)) q (a, as′) = (apart-back f (last-of f (f′ ∷ fs)) (last-all (Apart f) f f′ fs a), ahead-own f (f′ ∷ fs) q as′)
 
 -- one node more ------------------------------------------------------------------------------------------------------------
 
@@ -142,7 +126,7 @@ inside-push : (end : ℕ) (fs : List Span) (f : Span) → All (Inside 36 end) fs
 inside-push end [] f a x = (x, tt)
 inside-push end (g ∷ fs) f (y, a) x = (y, inside-push end fs f a x)
 
--- PART, with one node more
+-- a list's part with one node more
 pub part-push : (b : List ℕ) (h : Header) (id : ℕ) (fs : List Span) (ns : List Node) (q : ℕ) (n : Node) → List-part b h id fs ns q → Good b (nodes-to (last-of (span 0 0) fs)) q n
     → List-part b h id fs (ns ++ (n ∷ [])) (q + n .size)
 part-push b h id fs ns q n p g = record { inside = p .inside; marks = p .marks; real = p .real; spread = spread-push b (span 0 0) n (p .spread) g }

@@ -1,27 +1,17 @@
 -- Lists in a row: what holds of each, and of each two, and one element put between.
 -- Assumes nothing.
-use mathlib.Core.Path.{_≡_, refl, sym, ap, _∙_}
+use mathlib.Core.Path.{_≡_, ap, refl, sym, _∙_}
 use mathlib.Core.List.{List, [], _∷_, _++_, map}
 use Rattle.std.specs.shelf.Lists.{All}
-use Rattle.std.proofs.shelf.Lists.{append-assoc}
+use Rattle.std.proofs.shelf.Elements.{all-append, all-weaker}
+use Rattle.std.proofs.shelf.Lists.{append-assoc, append-nil}
 use Rattle.model.specs.Section.{flat, last-of}
 use Rattle.model.specs.Means.{Pairwise}
-
-pub all-front : {A : Type 0} (P : A → Type 0) (xs ys : List A) → All P (xs ++ ys) → All P xs × All P ys
-all-front P [] ys a = (tt, a)
-all-front P (x ∷ xs) ys (p, a) = let (q, r) = all-front P xs ys a in ((p, q), r)
-
-pub all-join : {A : Type 0} (P : A → Type 0) (xs ys : List A) → All P xs → All P ys → All P (xs ++ ys)
-all-join P [] ys a c = c
-all-join P (x ∷ xs) ys (p, a) c = (p, all-join P xs ys a c)
+use Rattle.meaning.proofs.Base.{all-front}
 
 pub all-between : {A : Type 0} (P : A → Type 0) (xs : List A) (z : A) (ys : List A) → All P (xs ++ ys) → P z → All P (xs ++ (z ∷ ys))
 all-between P [] z ys a p = (p, a)
 all-between P (x ∷ xs) z ys (q, a) p = (q, all-between P xs z ys a p)
-
-pub all-map : {A : Type 0} (P Q : A → Type 0) (xs : List A) → ((x : A) → P x → Q x) → All P xs → All Q xs
-all-map P Q [] f a = tt
-all-map P Q (x ∷ xs) f (p, a) = (f x p, all-map P Q xs f a)
 
 -- two that hold of each
 pub all-both : {A : Type 0} (P Q R : A → Type 0) (xs : List A) → ((x : A) → P x → Q x → R x) → All P xs → All Q xs → All R xs
@@ -32,12 +22,9 @@ pub last-all : {A : Type 0} (P : A → Type 0) (d x : A) (xs : List A) → All P
 last-all P d x [] (p, a) = p
 last-all P d x (y ∷ ys) (p, a) = last-all P x y ys a
 
-pub pair-front : {A : Type 0} (R : A → A → Type 0) (xs ys : List A) → Pairwise R (xs ++ ys) → Pairwise R xs × Pairwise R ys × All (λ x. All (R x) ys) xs
-pair-front R [] ys p = (tt, p, tt)
-pair-front R (x ∷ xs) ys (a, p) =
-    let (u, v) = all-front (R x) xs ys a in
-    let (q, r, s) = pair-front R xs ys p in
-    ((u, q), r, (v, s))
+pub last-push : {A : Type 0} (d : A) (xs : List A) (x : A) → last-of d (xs ++ (x ∷ [])) ≡ x
+last-push d [] x = refl
+last-push d (y ∷ xs) x = last-push y xs x
 
 pub pair-between : {A : Type 0} (R : A → A → Type 0) (xs : List A) (z : A) (ys : List A) → Pairwise R (xs ++ ys) → All (λ x. R x z) xs → All (R z) ys → Pairwise R (xs ++ (z ∷ ys))
 pair-between R [] z ys p a c = (c, p)
@@ -45,16 +32,19 @@ pair-between R (x ∷ xs) z ys (u, p) (v, a) c = (all-between (R x) xs z ys u v,
 
 -- one element for another
 pub pair-instead : {A : Type 0} (R : A → A → Type 0) (xs : List A) (y z : A) (ys : List A) → ((x : A) → R x y → R x z) → ((x : A) → R y x → R z x) → Pairwise R (xs ++ (y ∷ ys)) → Pairwise R (xs ++ (z ∷ ys))
-pair-instead R [] y z ys f g (a, p) = (all-map (R y) (R z) ys g a, p)
+pair-instead R [] y z ys f g (a, p) = (all-weaker (R y) (R z) g ys a, p)
 pair-instead R (x ∷ xs) y z ys f g (a, p) =
     let (u, v) = all-front (R x) xs (y ∷ ys) a in
-    (all-join (R x) xs (z ∷ ys) u (f x (v .0), v .1), pair-instead R xs y z ys f g p)
+    (all-append (R x) xs (z ∷ ys) u (f x (v .0), v .1), pair-instead R xs y z ys f g p)
 
--- fragments of lists -----------------------------------------------------------------------------------------------------
+-- lists of lists ---------------------------------------------------------------------------------------------------------
 
-pub flat-row : {A B : Type 0} (f : A → List B) (xs ys : List A) → flat (map f (xs ++ ys)) ≡ flat (map f xs) ++ flat (map f ys)
-flat-row f [] ys = refl
-flat-row f (x ∷ xs) ys = ap (λ z. f x ++ z) (flat-row f xs ys) ∙ sym (append-assoc (f x) (flat (map f xs)) (flat (map f ys)))
+pub flat-join : {A : Type 0} (xs ys : List (List A)) → flat (xs ++ ys) ≡ flat xs ++ flat ys
+flat-join [] ys = refl
+flat-join (x ∷ xs) ys = ap (λ z. x ++ z) (flat-join xs ys) ∙ sym (append-assoc x (flat xs) (flat ys))
+
+pub flat-push : {A : Type 0} (xs : List (List A)) (x : List A) → flat (xs ++ (x ∷ [])) ≡ flat xs ++ x
+flat-push xs x = flat-join xs (x ∷ []) ∙ ap (λ z. flat xs ++ z) (append-nil x)
 
 -- what holds of all pieces holds of the pieces of each
 pub all-flat : {A B : Type 0} (P : B → Type 0) (f : A → List B) (xs : List A) → All P (flat (map f xs)) → All (λ x. All P (f x)) xs
@@ -63,7 +53,7 @@ all-flat P f (x ∷ xs) a = let (p, q) = all-front P (f x) (flat (map f xs)) a i
 
 pub flat-all : {A B : Type 0} (P : B → Type 0) (f : A → List B) (xs : List A) → All (λ x. All P (f x)) xs → All P (flat (map f xs))
 flat-all P f [] a = tt
-flat-all P f (x ∷ xs) (p, a) = all-join P (f x) (flat (map f xs)) p (flat-all P f xs a)
+flat-all P f (x ∷ xs) (p, a) = all-append P (f x) (flat (map f xs)) p (flat-all P f xs a)
 
 -- one element for another, whose pieces are the same
 pub flat-instead : {A B : Type 0} (f : A → List B) (xs : List A) (y z : A) (ys : List A) → f z ≡ f y → flat (map f (xs ++ (z ∷ ys))) ≡ flat (map f (xs ++ (y ∷ ys)))

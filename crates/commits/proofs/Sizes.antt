@@ -8,13 +8,11 @@ use lib.ListN.{length}
 use Rattle.std.proofs.shelf.Lists.{length-append, length-replicate}
 use Rattle.model.specs.declared.types.Span.{Span}
 use Rattle.model.specs.declared.types.Entry.{Entry}
-use Rattle.model.specs.Bytes.{digits, behind}
+use Rattle.model.specs.Bytes.{digits}
 use Rattle.model.specs.References.{span-bytes}
 use Rattle.model.specs.Nodes.{plain-node, referring-node}
 use Rattle.model.specs.ListFragments.{new-fragment}
 use Rattle.model.specs.LogFragments.{entry-bytes, new-log-fragment}
-use Rattle.model.specs.Layouts.{Layout}
-use Rattle.model.specs.Saving.{at-end}
 
 pub length-digits : (n v : ℕ) → length (digits n v) ≡ n
 unfolding digits
@@ -40,7 +38,3 @@ length-entry-bytes (e ∷ es) = simp (length-append, length-digits, length-entry
 
 pub length-new-log-fragment : (es : List Entry) → length es ≤ 126 → length (new-log-fragment es) ≡ 1024
 length-new-log-fragment es h = simp (length-append, length-digits, length-replicate, length-entry-bytes) (omega arith)
-
--- a piece ends at a place divisible by 8, at most 7 bytes behind what it holds
-pub piece-ends : (y : Layout) (new : List ℕ) → y .end + length new ≤ behind (at-end y new)
-piece-ends y new = simp (length-append, length-replicate) (omega arith)

@@ -1,7 +1,7 @@
 -- What was written stands there, and what stands there is read.
 -- Assumes nothing.
 use Prim.Native.Nat.{ℕ, zero, suc, _+_, _-_, _/_, _%_, _^_, _<_, _≤_, max}
-use mathlib.Core.Path.{_≡_, sym, ap, _∙_}
+use mathlib.Core.Path.{_≡_, refl, sym, ap, _∙_}
 use mathlib.Core.Logic.{_⊎_, inl, inr}
 use mathlib.Core.List.{List, [], _∷_, _++_}
 use native.Mathlib.Nat.{pow-suc, div-lt-iff-lt-mul, add-zero}
@@ -11,7 +11,7 @@ use lib.ListN.{length, getD, take, drop}
 use Rattle.std.proofs.shelf.Lists.{places, ext-getD, length-append, length-take, length-drop, getD-take, getD-drop, getD-append-left}
 use Rattle.model.specs.declared.types.Span.{Span}
 use Rattle.model.specs.declared.types.Entry.{Entry}
-use Rattle.model.specs.Bytes.{le, digits, piece, written, Same}
+use Rattle.model.specs.Bytes.{le, digits, piece, Write, written, applied, Same}
 use Rattle.model.specs.References.{span-at, span-bytes}
 use Rattle.model.specs.LogFragments.{entry-at, entry-bytes}
 use Rattle.commits.specs.Stored.{Stored}
@@ -40,6 +40,12 @@ pub same-written : (b : List ℕ) (p : ℕ) (new : List ℕ) (lo hi : ℕ) → p
 same-written b p new lo hi h (inl x) i l k = sym (written-below b p new i h (omega arith))
 same-written b p new lo hi h (inr x) i l k = sym (written-above b p new i h (omega arith))
 
+-- writes one after the other
+pub applied-row : (b : List ℕ) (xs ys : List Write) → applied b (xs ++ ys) ≡ applied (applied b xs) ys
+unfolding applied
+applied-row b [] ys = refl
+applied-row b (w ∷ xs) ys = applied-row (written b (w .place) (w .new)) xs ys
+
 pub stored-written : (b : List ℕ) (p : ℕ) (new : List ℕ) → p ≤ length b → Stored (written b p new) p new
 stored-written b p new h = record {
   bytes = λ i l. written-at b p new (p + i) h (omega arith) (omega arith) ∙ ap (λ k. getD new k 0) (omega arith);
@@ -59,9 +65,9 @@ stored-front b p xs ys o = record {
 
 pub stored-back : (b : List ℕ) (p : ℕ) (xs ys : List ℕ) → Stored b p (xs ++ ys) → Stored b (p + length xs) ys
 stored-back b p xs ys o = record {
-  bytes = λ i l. 
-    let a : p + length xs + i ≡ p + (length xs + i) = omega arith in
-    rw a (o .bytes (length xs + i) (omega (arith, length-append xs ys)) ∙ search (needs, places));
+  bytes = λ i l.
+      let a : p + length xs + i ≡ p + (length xs + i) = omega arith in
+      rw a (o .bytes (length xs + i) (omega (arith, length-append xs ys)) ∙ search (needs, places));
   fits = omega (arith, length-append xs ys, o .fits);
 }
 
@@ -78,11 +84,11 @@ le-stored (suc n) b p v h o =
 -- a piece that stands there
 pub piece-stored : (b : List ℕ) (p : ℕ) (xs : List ℕ) → Stored b p xs → piece b p (length xs) ≡ xs
 unfolding piece
-piece-stored b p xs o = 
+piece-stored b p xs o =
     let u : length (take (length xs) (drop p b)) ≡ length xs = simp (length-take, length-drop) (omega (arith, o .fits)) in
     ext-getD 0 _ _ u (λ i k.
-      let l : i < length xs = omega arith in
-      rw (getD-take, getD-drop) (o .bytes i l))
+    let l : i < length xs = omega arith in
+    rw (getD-take, getD-drop) (o .bytes i l))
 
 -- numbers of 4 and of 8 bytes, references and entries
 pub four-stored : (b : List ℕ) (p v : ℕ) → v < 2 ^ 32 → Stored b p (digits 4 v) → le 4 b p ≡ v

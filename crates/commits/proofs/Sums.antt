@@ -8,13 +8,13 @@ use lib.Dec.{eqb}
 use lib.Bits.{bitXor, xor-lt}
 use Rattle.std.specs.shelf.Lists.{All}
 use Rattle.std.proofs.shelf.Tests.{cases-bool}
+use Rattle.std.proofs.shelf.Elements.{all-append}
 use Rattle.model.specs.declared.types.Entry.{Entry}
 use Rattle.model.specs.Bytes.{digits, Bytes}
 use Rattle.model.specs.Crc.{stepped, steps, fed, run, crcOf, crc-32}
 use Rattle.model.specs.LogFragments.{entry-bytes, sentinel}
 use Rattle.model.specs.Means.{closed}
 use Rattle.commits.proofs.FragmentBack.{Small}
-use Rattle.commits.proofs.Rows.{all-join}
 
 stepped-small : (r : ℕ) → r < 2 ^ 32 → stepped crc-32 r < 2 ^ 32
 stepped-small r h = elim (cases-bool (eqb (r % 2) 1)) [
@@ -44,13 +44,12 @@ digits-bytes (suc n) v = (omega arith, digits-bytes n (v / 256))
 pub entries-bytes : (es : List Entry) → Bytes (entry-bytes es)
 unfolding entry-bytes
 entries-bytes [] = tt
-entries-bytes (e ∷ es) = all-join (λ x. x < 256) (digits 4 (e .source)) (digits 4 (e .number) ++ entry-bytes es) (digits-bytes 4 (e .source))
-    (all-join (λ x. x < 256) (digits 4 (e .number)) (entry-bytes es) (digits-bytes 4 (e .number)) (entries-bytes es))
+entries-bytes (e ∷ es) = all-append (λ x. x < 256) (digits 4 (e .source)) (digits 4 (e .number) ++ entry-bytes es) (digits-bytes 4 (e .source))
+    (all-append (λ x. x < 256) (digits 4 (e .number)) (entry-bytes es) (digits-bytes 4 (e .number)) (entries-bytes es))
 
--- SENTINEL
 pub sentinel-small : (es : List Entry) → sentinel es .number < 2 ^ 32
 sentinel-small es = crc-small (entry-bytes es) (entries-bytes es)
 
 -- a transaction with its sentinel
 pub closed-small : (t : List Entry) → All Small t → All Small (closed t)
-closed-small t a = all-join Small t (sentinel t ∷ []) a ((omega arith, sentinel-small t), tt)
+closed-small t a = all-append Small t (sentinel t ∷ []) a ((omega arith, sentinel-small t), tt)

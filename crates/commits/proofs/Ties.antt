@@ -8,13 +8,16 @@ use native.Mathlib.Omega.{arith}
 use lib.ListN.{length}
 use Rattle.std.specs.shelf.Lists.{All, Has}
 use Rattle.std.proofs.shelf.Lists.{append-nil, length-append, length-map, map-append}
+use Rattle.std.proofs.shelf.Elements.{all-append, all-weaker, has-append-left, has-append-right}
 use Rattle.model.specs.declared.types.Span.{Span}
 use Rattle.model.specs.declared.types.Header.{Header}
 use Rattle.model.specs.Section.{NodeList, flat, first-of}
 use Rattle.model.specs.OpenedLists.{Named, named-by, named-first}
 use Rattle.model.specs.Means.{named-in, Reached, by-header, by-node}
+use Rattle.meaning.proofs.Base.{all-front}
+use Rattle.meaning.proofs.Members.{flat-append}
 use Rattle.commits.specs.Body.{Tied}
-use Rattle.commits.proofs.Rows.{all-front, all-join, all-map, flat-row, all-flat, flat-all, flat-instead}
+use Rattle.commits.proofs.Rows.{all-flat, flat-all, flat-instead}
 
 -- elements of a list -------------------------------------------------------------------------------------------------
 
@@ -27,17 +30,6 @@ has-there x y xs (k, l, a) = (suc k, omega arith, a)
 pub has-where : {A : Type 0} (x y : A) (xs : List A) → Has (x ∷ xs) y → (x ≡ y) ⊎ Has xs y
 has-where x y xs (zero, l, a) = inl (a x)
 has-where x y xs (suc k, l, a) = inr (k, omega arith, a)
-
-pub has-left : {A : Type 0} (xs ys : List A) (x : A) → Has xs x → Has (xs ++ ys) x
-has-left [] ys x (k, l, a) = absurd (omega arith)
-has-left (z ∷ xs) ys x h = elim (has-where z x xs h) [
-  | inl e ↦ subst (λ w. Has (z ∷ (xs ++ ys)) w) e (has-here z (xs ++ ys))
-  | inr i ↦ has-there z x (xs ++ ys) (has-left xs ys x i)
-]
-
-pub has-right : {A : Type 0} (xs ys : List A) (x : A) → Has ys x → Has (xs ++ ys) x
-has-right [] ys x h = h
-has-right (z ∷ xs) ys x h = has-there z x (xs ++ ys) (has-right xs ys x h)
 
 -- an element of a list is the one in the middle, or is in it with another there
 pub has-instead : {A : Type 0} (xs : List A) (y z : A) (ys : List A) (m : A) → Has (xs ++ (y ∷ ys)) m → (y ≡ m) ⊎ Has (xs ++ (z ∷ ys)) m
@@ -78,14 +70,14 @@ carries-same ls l h = (l, h, refl, λ r x. x)
 carries-push : (pre : List NodeList) (l l′ : NodeList) (post rest : List NodeList) → first-of l′ ≡ first-of l → ((r : Span) → Has (names l) r → Has (names l′) r)
     → Carries (pre ++ (l ∷ post)) ((pre ++ (l′ ∷ post)) ++ rest)
 carries-push pre l l′ post rest e k m h = elim (has-instead pre l l′ post m h) [
-  | inl q ↦ (l′, has-left (pre ++ (l′ ∷ post)) rest l′ (has-right pre (l′ ∷ post) l′ (has-here l′ post)), e ∙ ap first-of q, λ r x. k r (subst (λ (w : NodeList). Has (names w) r) (sym q) x))
-  | inr i ↦ (m, has-left (pre ++ (l′ ∷ post)) rest m i, refl, λ r x. x)
+  | inl q ↦ (l′, has-append-left (pre ++ (l′ ∷ post)) rest l′ (has-append-right pre (l′ ∷ post) l′ (has-here l′ post)), e ∙ ap first-of q, λ r x. k r (subst (λ (w : NodeList). Has (names w) r) (sym q) x))
+  | inr i ↦ (m, has-append-left (pre ++ (l′ ∷ post)) rest m i, refl, λ r x. x)
 ]
 
--- TIED, under a header with the same root and hashed chunk list
+-- under a header with the same root and hashed chunk list
 pub tied-header : (h h′ : Header) (ls : List NodeList) → named-first h ≡ named-first h′ → Tied h ls → Tied h′ ls
 tied-header h h′ ls e t = record {
-  reached = all-map (λ l. Reached h ls (first-of l)) (λ l. Reached h′ ls (first-of l)) ls (λ l x. reached-more h h′ ls ls e (carries-same ls) (first-of l) x) (t .reached);
+  reached = all-weaker (λ l. Reached h ls (first-of l)) (λ l. Reached h′ ls (first-of l)) (λ l x. reached-more h h′ ls ls e (carries-same ls) (first-of l) x) ls (t .reached);
   named = subst (λ z. All (λ q. Has (map first-of ls) (q .1)) (z ++ flat (map named-by ls))) e (t .named);
   once = subst (λ z. length (z ++ flat (map named-by ls)) ≡ length ls) e (t .once);
 }
@@ -94,7 +86,7 @@ all-instead : {A : Type 0} (P : A → Type 0) (xs : List A) (y z : A) (ys : List
 all-instead P [] y z ys f (p, a) = (f p, a)
 all-instead P (x ∷ xs) y z ys f (p, a) = (p, all-instead P xs y z ys f a)
 
--- TIED, with a node that names no list
+-- with a node that names no list
 pub tied-push : (h : Header) (pre : List NodeList) (l l′ : NodeList) (post : List NodeList) → first-of l′ ≡ first-of l → named-by l′ ≡ named-by l
     → Tied h (pre ++ (l ∷ post)) → Tied h (pre ++ (l′ ∷ post))
 tied-push h pre l l′ post e f t =
@@ -105,47 +97,47 @@ tied-push h pre l l′ post e f t =
     let u : named-in h ms ≡ named-in h ls = ap (λ z. named-first h ++ z) (flat-instead named-by pre l l′ post f) in
     record {
       reached = all-instead (λ m. Reached h ms (first-of m)) pre l l′ post (λ x. subst (λ w. Reached h ms w) (sym e) x)
-          (all-map (λ m. Reached h ls (first-of m)) (λ m. Reached h ms (first-of m)) ls (λ m x. reached-more h h ls ms refl c (first-of m) x) (t .reached));
+          (all-weaker (λ m. Reached h ls (first-of m)) (λ m. Reached h ms (first-of m)) (λ m x. reached-more h h ls ms refl c (first-of m) x) ls (t .reached));
       named = subst (λ z. All (λ p. Has z (p .1)) (named-in h ms)) (sym q) (subst (λ z. All (λ p. Has (map first-of ls) (p .1)) z) (sym u) (t .named));
       once = ap length u ∙ t .once ∙ sym (length-map ls first-of) ∙ sym (ap length q) ∙ length-map ms first-of;
     }
 
--- TIED, with a node that names a new list
+-- with a node that names a new list
 pub tied-branch : (h : Header) (pre : List NodeList) (l l′ : NodeList) (post : List NodeList) (m : NodeList) (q : Named) → first-of l′ ≡ first-of l → named-by l′ ≡ named-by l ++ (q ∷ [])
     → q .1 ≡ first-of m → named-by m ≡ [] → Tied h (pre ++ (l ∷ post)) → Tied h ((pre ++ (l′ ∷ post)) ++ (m ∷ []))
 tied-branch h pre l l′ post m q e f g z t =
     let ls : List NodeList = pre ++ (l ∷ post) in
     let ks : List NodeList = pre ++ (l′ ∷ post) in
     let ms : List NodeList = ks ++ (m ∷ []) in
-    let old : (r : Span) → Has (names l) r → Has (names l′) r = λ r x. subst (λ (w : List Named). Has (map (λ p. p .1) w) r) (sym f) (subst (λ w. Has w r) (sym (map-append (λ (p : Named). p .1) (named-by l) (q ∷ []))) (has-left (names l) (q .1 ∷ []) r x)) in
+    let old : (r : Span) → Has (names l) r → Has (names l′) r = λ r x. subst (λ (w : List Named). Has (map (λ p. p .1) w) r) (sym f) (subst (λ w. Has w r) (sym (map-append (λ (p : Named). p .1) (named-by l) (q ∷ []))) (has-append-left (names l) (q .1 ∷ []) r x)) in
     let new : Has (names l′) (first-of m) = subst (λ (w : List Named). Has (map (λ p. p .1) w) (first-of m)) (sym f)
-        (subst (λ w. Has w (first-of m)) (sym (map-append (λ (p : Named). p .1) (named-by l) (q ∷ []))) (has-right (names l) (q .1 ∷ []) (first-of m) (subst (λ w. Has (q .1 ∷ []) w) g (has-here (q .1) [])))) in
+    (subst (λ w. Has w (first-of m)) (sym (map-append (λ (p : Named). p .1) (named-by l) (q ∷ []))) (has-append-right (names l) (q .1 ∷ []) (first-of m) (subst (λ w. Has (q .1 ∷ []) w) g (has-here (q .1) [])))) in
     let c : Carries ls ms = carries-push pre l l′ post (m ∷ []) e old in
     let rs : All (λ k. Reached h ms (first-of k)) ks = all-instead (λ k. Reached h ms (first-of k)) pre l l′ post (λ x. subst (λ w. Reached h ms w) (sym e) x)
-          (all-map (λ k. Reached h ls (first-of k)) (λ k. Reached h ms (first-of k)) ls (λ k x. reached-more h h ls ms refl c (first-of k) x) (t .reached)) in
+    (all-weaker (λ k. Reached h ls (first-of k)) (λ k. Reached h ms (first-of k)) (λ k x. reached-more h h ls ms refl c (first-of k) x) ls (t .reached)) in
     let rl : Reached h ms (first-of l′) = all-front (λ k. Reached h ms (first-of k)) pre (l′ ∷ post) rs .1 .0 in
-    let has : Has ms l′ = has-left ks (m ∷ []) l′ (has-right pre (l′ ∷ post) l′ (has-here l′ post)) in
+    let has : Has ms l′ = has-append-left ks (m ∷ []) l′ (has-append-right pre (l′ ∷ post) l′ (has-here l′ post)) in
     let fs : map first-of ms ≡ map first-of ls ++ (first-of m ∷ []) = map-append first-of ks (m ∷ []) ∙ ap (λ w. w ++ (first-of m ∷ [])) (map-instead first-of pre l l′ post e) in
     let Q : Named → Type 0 = λ p. Has (map first-of ms) (p .1) in
-    let up : (p : Named) → Has (map first-of ls) (p .1) → Q p = λ p x. subst (λ w. Has w (p .1)) (sym fs) (has-left (map first-of ls) (first-of m ∷ []) (p .1) x) in
+    let up : (p : Named) → Has (map first-of ls) (p .1) → Q p = λ p x. subst (λ w. Has w (p .1)) (sym fs) (has-append-left (map first-of ls) (first-of m ∷ []) (p .1) x) in
     let (n0, n1) = all-front (λ p. Has (map first-of ls) (p .1)) (named-first h) (flat (map named-by ls)) (t .named) in
-    let n2 : All (λ k. All Q (named-by k)) ls = all-flat Q named-by ls (all-map (λ p. Has (map first-of ls) (p .1)) Q (flat (map named-by ls)) up n1) in
-    let last : Q q = subst (λ w. Has w (q .1)) (sym fs) (has-right (map first-of ls) (first-of m ∷ []) (q .1) (subst (λ w. Has (w ∷ []) (q .1)) g (has-here (q .1) []))) in
-    let n3 : All (λ k. All Q (named-by k)) ks = all-instead (λ k. All Q (named-by k)) pre l l′ post (λ x. subst (λ w. All Q w) (sym f) (all-join Q (named-by l) (q ∷ []) x (last, tt))) n2 in
-    let n4 : All (λ k. All Q (named-by k)) ms = all-join (λ k. All Q (named-by k)) ks (m ∷ []) n3 (subst (λ w. All Q w) (sym z) tt, tt) in
+    let n2 : All (λ k. All Q (named-by k)) ls = all-flat Q named-by ls (all-weaker (λ p. Has (map first-of ls) (p .1)) Q up (flat (map named-by ls)) n1) in
+    let last : Q q = subst (λ w. Has w (q .1)) (sym fs) (has-append-right (map first-of ls) (first-of m ∷ []) (q .1) (subst (λ w. Has (w ∷ []) (q .1)) g (has-here (q .1) []))) in
+    let n3 : All (λ k. All Q (named-by k)) ks = all-instead (λ k. All Q (named-by k)) pre l l′ post (λ x. subst (λ w. All Q w) (sym f) (all-append Q (named-by l) (q ∷ []) x (last, tt))) n2 in
+    let n4 : All (λ k. All Q (named-by k)) ms = all-append (λ k. All Q (named-by k)) ks (m ∷ []) n3 (subst (λ w. All Q w) (sym z) tt, tt) in
     let A = flat (map named-by pre) in
     let B = flat (map named-by post) in
     let c1 : length (named-in h ls) ≡ length (named-first h) + (length A + (length (named-by l) + length B))
-        = length-append (named-first h) (flat (map named-by ls)) ∙ ap (λ w. length (named-first h) + w) (ap length (flat-row named-by pre (l ∷ post)) ∙ length-append A (named-by l ++ B) ∙ ap (λ w. length A + w) (length-append (named-by l) B)) in
+    = length-append (named-first h) (flat (map named-by ls)) ∙ ap (λ w. length (named-first h) + w) (ap length (flat-append named-by pre (l ∷ post)) ∙ length-append A (named-by l ++ B) ∙ ap (λ w. length A + w) (length-append (named-by l) B)) in
     let c2 : length (flat (map named-by ks)) ≡ length A + (length (named-by l′) + length B)
-        = ap length (flat-row named-by pre (l′ ∷ post)) ∙ length-append A (named-by l′ ++ B) ∙ ap (λ w. length A + w) (length-append (named-by l′) B) in
-    let c3 : length (flat (map named-by ms)) ≡ length (flat (map named-by ks)) = ap length (flat-row named-by ks (m ∷ []) ∙ ap (λ (w : List Named). flat (map named-by ks) ++ (w ++ [])) z ∙ append-nil (flat (map named-by ks))) in
+    = ap length (flat-append named-by pre (l′ ∷ post)) ∙ length-append A (named-by l′ ++ B) ∙ ap (λ w. length A + w) (length-append (named-by l′) B) in
+    let c3 : length (flat (map named-by ms)) ≡ length (flat (map named-by ks)) = ap length (flat-append named-by ks (m ∷ []) ∙ ap (λ (w : List Named). flat (map named-by ks) ++ (w ++ [])) z ∙ append-nil (flat (map named-by ks))) in
     let c4 : length (named-by l′) ≡ length (named-by l) + 1 = ap length f ∙ length-append (named-by l) (q ∷ []) in
     let c5 : length (named-in h ms) ≡ length (named-first h) + length (flat (map named-by ms)) = length-append (named-first h) (flat (map named-by ms)) in
     let c6 : length ms ≡ length ks + 1 = length-append ks (m ∷ []) in
     let c7 : length ks ≡ length ls = sym (length-map ks first-of) ∙ ap length (map-instead first-of pre l l′ post e) ∙ length-map ls first-of in
     record {
-      reached = all-join (λ k. Reached h ms (first-of k)) ks (m ∷ []) rs (by-node has rl new, tt);
-      named = all-join Q (named-first h) (flat (map named-by ms)) (all-map (λ p. Has (map first-of ls) (p .1)) Q (named-first h) up n0) (flat-all Q named-by ms n4);
+      reached = all-append (λ k. Reached h ms (first-of k)) ks (m ∷ []) rs (by-node has rl new, tt);
+      named = all-append Q (named-first h) (flat (map named-by ms)) (all-weaker (λ p. Has (map first-of ls) (p .1)) Q up (named-first h) n0) (flat-all Q named-by ms n4);
       once = omega (arith, t .once);
     }

@@ -1,4 +1,4 @@
--- What an add leaves of a row: everything before the draft's end but the room of one fragment.
+-- What an add or a commit's log writes leave of a row: everything before the draft's end but the room of one fragment.
 -- Assumes nothing.
 use Prim.Native.Nat.{ℕ, _+_, _≤_, _<_}
 use mathlib.Core.Path.{_≡_}
@@ -7,13 +7,12 @@ use mathlib.Core.List.{List, [], _∷_}
 use lib.ListN.{length, getD}
 use Rattle.model.specs.declared.types.Span.{Span}
 use Rattle.model.specs.References.{end-of}
-use Rattle.model.specs.ListFragments.{nodes-from}
 use Rattle.model.specs.Means.{Apart}
 
--- c is b up to `end`, but for the bytes of the fragment g from lo on up to its last mark
-pub record Around (b c : List ℕ) (end : ℕ) (g : Span) (lo : ℕ) : Type 0 where
-  pub kept : (i : ℕ) → i < end → (i < lo) ⊎ (end-of g ≤ i + 8) → getD b i 0 ≡ getD c i 0
-  pub from : nodes-from g ≤ lo
+-- c is b up to `end`, but for the bytes of the fragment g from lo on: lo is behind its first `front` bytes, and its last `back` bytes are kept
+pub record Around (b c : List ℕ) (end : ℕ) (g : Span) (lo front back : ℕ) : Type 0 where
+  pub kept : (i : ℕ) → i < end → (i < lo) ⊎ (end-of g ≤ i + back) → getD b i 0 ≡ getD c i 0
+  pub from : g .start + front ≤ lo
   pub before : end ≤ length b
   pub after : end ≤ length c
 

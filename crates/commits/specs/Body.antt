@@ -8,20 +8,18 @@ use lib.ListN.{length}
 use Rattle.std.specs.shelf.Lists.{All, Has}
 use Rattle.model.specs.declared.types.Span.{Span}
 use Rattle.model.specs.declared.types.Header.{Header}
-use Rattle.model.specs.References.{span, end-of}
+use Rattle.model.specs.References.{end-of}
 use Rattle.model.specs.Headers.{header-span}
 use Rattle.model.specs.Nodes.{Node}
 use Rattle.model.specs.ListFragments.{nodes-from}
-use Rattle.model.specs.Section.{NodeList, last-of, list-fragments, first-of}
+use Rattle.model.specs.Section.{NodeList, list-fragments, first-of}
 use Rattle.model.specs.Means.{Apart, Pairwise, List-part, named-in, Reached, data-spans}
-
-abbrev pub last-fragment : NodeList → Span
-last-fragment l = last-of (span 0 0) (l .fragments)
+use Rattle.model.specs.Laws.{last-fragment}
 
 -- a list is right, and its last node stands in its last fragment
 pub record Right (b : List ℕ) (h : Header) (l : NodeList) : Type 0 where
   pub part : List-part b h (l .id) (l .fragments) (l .nodes) (l .free)
-  pub ends : nodes-from (last-fragment l) < l .free
+  pub ends : nodes-from (last-fragment (l .fragments)) < l .free
 
 -- the lists ls in b, as far as bytes go; gs are the log's fragments
 pub record Body (b : List ℕ) (h : Header) (gs : List Span) (ls : List NodeList) : Type 0 where

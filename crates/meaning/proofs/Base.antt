@@ -4,18 +4,20 @@ use Prim.Native.Nat.{ℕ, _≤_}
 use mathlib.Core.Path.{_≡_, refl}
 use mathlib.Core.Logic.{inl, inr}
 use mathlib.Core.Bool.{true, false}
-use mathlib.Core.List.{List, [], _∷_, _++_}
+use mathlib.Core.List.{List, [], _∷_, _++_, map}
 use native.Mathlib.Omega.{arith}
 use lib.Dec.{leb}
 use Rattle.std.specs.shelf.Lists.{All}
 use Rattle.std.proofs.shelf.Ways.{tells}
 use Rattle.std.proofs.shelf.Tests.{cases-bool, or-from, or-parts}
+use Rattle.std.proofs.shelf.Elements.{all-append, all-weaker}
 use Rattle.model.specs.declared.types.Span.{Span}
 use Rattle.model.specs.Faults.{Outcome, done, refused, Check, unless, then}
-use Rattle.model.specs.References.{share, meets}
+use Rattle.model.specs.References.{share, meets, end-of}
 use Rattle.model.specs.Headers.{header-span}
 use Rattle.model.specs.OpenedLog.{outside, overlaps}
 use Rattle.model.specs.Means.{Within, Apart, Pairwise, Inside}
+use Rattle.model.specs.Nodes.{Node, referring}
 
 -- outcomes ---------------------------------------------------------------------------------------------------------
 
@@ -30,7 +32,7 @@ unless-done ((false, f) ∷ cs) a x e = let (c, d) = unless-done cs a x e in ((r
 
 pub unless-clean : {A : Type 0} (cs : List Check) (a : Outcome A) → Clean cs → unless cs a ≡ a
 unless-clean [] a k = refl
-unless-clean ((t, f) ∷ cs) a (e , k) = rw e (unless-clean cs a k)
+unless-clean ((t, f) ∷ cs) a (e, k) = rw e (unless-clean cs a k)
 
 pub then-done : {A B : Type 0} (w : Outcome A) (k : A → Outcome B) (x : B) → then w k ≡ done x → (a : A) × (w ≡ done a) × (k a ≡ done x)
 then-done (done a) k x e = (a, refl, e)
@@ -42,14 +44,6 @@ pub all-front : {X : Type 0} (P : X → Type 0) (xs ys : List X) → All P (xs +
 all-front P [] ys a = (tt, a)
 all-front P (x ∷ xs) ys (p, a) = let (q, r) = all-front P xs ys a in ((p, q), r)
 
-pub all-join : {X : Type 0} (P : X → Type 0) (xs ys : List X) → All P xs → All P ys → All P (xs ++ ys)
-all-join P [] ys a c = c
-all-join P (x ∷ xs) ys (p, a) c = (p, all-join P xs ys a c)
-
-pub all-map : {X : Type 0} (P Q : X → Type 0) (xs : List X) → ((x : X) → P x → Q x) → All P xs → All Q xs
-all-map P Q [] k a = tt
-all-map P Q (x ∷ xs) k (p, a) = (k x p, all-map P Q xs k a)
-
 -- Pairwise ---------------------------------------------------------------------------------------------------------
 
 -- each of xs is R to each of ys
@@ -58,7 +52,7 @@ Cross R xs ys = All (λ x. All (R x) ys) xs
 
 pub pairs-join : {X : Type 0} (R : X → X → Type 0) (xs ys : List X) → Pairwise R xs → Pairwise R ys → Cross R xs ys → Pairwise R (xs ++ ys)
 pairs-join R [] ys a c d = c
-pairs-join R (x ∷ xs) ys (p, a) c (e, d) = (all-join (R x) xs ys p e, pairs-join R xs ys a c d)
+pairs-join R (x ∷ xs) ys (p, a) c (e, d) = (all-append (R x) xs ys p e, pairs-join R xs ys a c d)
 
 pub pairs-split : {X : Type 0} (R : X → X → Type 0) (xs ys : List X) → Pairwise R (xs ++ ys) → Pairwise R xs × Pairwise R ys × Cross R xs ys
 pairs-split R [] ys a = (tt, a, tt)
@@ -77,7 +71,7 @@ cross-push R x xs (y ∷ ys) (p, a) (q, c) = ((p, q), cross-push R x xs ys a c)
 
 pub cross-back : {X : Type 0} (R : X → X → Type 0) (xs ys : List X) → ((x y : X) → R x y → R y x) → Cross R xs ys → Cross R ys xs
 cross-back R [] ys s c = cross-none R ys
-cross-back R (x ∷ xs) ys s (p, c) = cross-push R x xs ys (all-map (λ y. R x y) (λ y. R y x) ys (λ y r. s x y r) p) (cross-back R xs ys s c)
+cross-back R (x ∷ xs) ys s (p, c) = cross-push R x xs ys (all-weaker (λ y. R x y) (λ y. R y x) (λ y r. s x y r) ys p) (cross-back R xs ys s c)
 
 -- each of xs is R to what stands in two lists
 pub cross-front : {X : Type 0} (R : X → X → Type 0) (xs ys zs : List X) → Cross R xs (ys ++ zs) → Cross R xs ys × Cross R xs zs
@@ -89,7 +83,7 @@ cross-front R (x ∷ xs) ys zs (p, c) =
 
 pub cross-join : {X : Type 0} (R : X → X → Type 0) (xs ys zs : List X) → Cross R xs ys → Cross R xs zs → Cross R xs (ys ++ zs)
 cross-join R [] ys zs c d = tt
-cross-join R (x ∷ xs) ys zs (p, c) (q, d) = (all-join (R x) ys zs p q, cross-join R xs ys zs c d)
+cross-join R (x ∷ xs) ys zs (p, c) (q, d) = (all-append (R x) ys zs p q, cross-join R xs ys zs c d)
 
 -- a block is moved to the front
 pub pairs-move : {X : Type 0} (R : X → X → Type 0) (as′ l bs : List X) → ((x y : X) → R x y → R y x) → Pairwise R (as′ ++ (l ++ bs)) → Pairwise R (l ++ (as′ ++ bs))
@@ -103,7 +97,7 @@ pub all-move : {X : Type 0} (P : X → Type 0) (as′ l bs : List X) → All P (
 all-move P as′ l bs a =
     let (u, v) = all-front P as′ (l ++ bs) a in
     let (x, y) = all-front P l bs v in
-    all-join P l (as′ ++ bs) x (all-join P as′ bs u y)
+    all-append P l (as′ ++ bs) x (all-append P as′ bs u y)
 
 -- the same behind a front that stays
 pub pairs-move-in : {X : Type 0} (R : X → X → Type 0) (xs as′ l bs : List X) → ((x y : X) → R x y → R y x)
@@ -111,7 +105,7 @@ pub pairs-move-in : {X : Type 0} (R : X → X → Type 0) (xs as′ l bs : List 
 pairs-move-in R [] as′ l bs s a = pairs-move R as′ l bs s a
 pairs-move-in R (x ∷ xs) as′ l bs s (p, a) =
     let (u, v) = all-front (R x) xs (as′ ++ (l ++ bs)) p in
-    (all-join (R x) xs (l ++ (as′ ++ bs)) u (all-move (R x) as′ l bs v), pairs-move-in R xs as′ l bs s a)
+    (all-append (R x) xs (l ++ (as′ ++ bs)) u (all-move (R x) as′ l bs v), pairs-move-in R xs as′ l bs s a)
 
 -- ranges -----------------------------------------------------------------------------------------------------------
 
@@ -121,11 +115,11 @@ apart-back r s a i x y = a i y x
 pub apart-share : (r s : Span) → Apart r s → share r s ≡ false
 apart-share r s a = elim (cases-bool (share r s)) [
   | inl e ↦ absurd (elim (cases-bool (leb (r .start) (s .start))) [
-      | inl l ↦ let x : Within r (s .start) = (grind (arith, tells), grind (arith, tells)) in
-                let y : Within s (s .start) = (omega arith, grind (arith, tells)) in a (s .start) x y
-      | inr l ↦ let x : Within r (r .start) = (omega arith, grind (arith, tells)) in
-                let y : Within s (r .start) = (grind (arith, tells), grind (arith, tells)) in a (r .start) x y
-    ])
+    | inl l ↦ let x : Within r (s .start) = (grind (arith, tells), grind (arith, tells)) in
+        let y : Within s (s .start) = (omega arith, grind (arith, tells)) in a (s .start) x y
+    | inr l ↦ let x : Within r (r .start) = (omega arith, grind (arith, tells)) in
+        let y : Within s (r .start) = (grind (arith, tells), grind (arith, tells)) in a (r .start) x y
+  ])
   | inr e ↦ e
 ]
 
@@ -162,4 +156,14 @@ overlaps-apart r ss e = let (x, y) = or-parts (share r header-span) (meets r ss)
 -- one more at the end
 pub pairs-push : (xs : List Span) (f : Span) → Pairwise Apart xs → All (Apart f) xs → Pairwise Apart (xs ++ (f ∷ []))
 pairs-push [] f a c = (tt, tt)
-pairs-push (x ∷ xs) f (p, a) (q, c) = (all-join (Apart x) xs (f ∷ []) p (apart-back f x q, tt), pairs-push xs f a c)
+pairs-push (x ∷ xs) f (p, a) (q, c) = (all-append (Apart x) xs (f ∷ []) p (apart-back f x q, tt), pairs-push xs f a c)
+
+-- data -------------------------------------------------------------------------------------------------------------
+
+-- the present references to data of some nodes
+abbrev pub references : List Node → List Span
+references ns = map (λ n. n .reference) (referring 1 ns)
+
+-- data that ends by the file's end, and shares no byte with the header or a fragment
+abbrev pub Data-fits : ℕ → List Span → Span → Type 0
+Data-fits end fs r = (end-of r ≤ end) × All (Apart r) (header-span ∷ fs)

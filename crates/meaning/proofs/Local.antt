@@ -1,4 +1,4 @@
--- Trials: the relations hold of another row that agrees on what they speak of.
+-- Nodes stand in another row that agrees on their fragments.
 -- Assumes nothing.
 use Prim.Native.Nat.{ℕ, _+_, _≤_}
 use mathlib.Core.Path.{_≡_, ap, _∙_}

@@ -12,22 +12,23 @@ use Rattle.std.specs.shelf.Lists.{All, Has}
 use Rattle.std.proofs.shelf.Lists.{append-nil}
 use Rattle.std.proofs.shelf.Ways.{tells}
 use Rattle.std.proofs.shelf.Tests.{and-from}
+use Rattle.std.proofs.shelf.Elements.{all-append}
 use Rattle.model.specs.declared.types.Span.{Span}
 use Rattle.model.specs.declared.types.Header.{Header}
 use Rattle.model.specs.Bytes.{le, piece, same-row}
-use Rattle.model.specs.Faults.{Outcome, done, Check, unless, then}
+use Rattle.model.specs.Faults.{done, Check, unless, then}
 use Rattle.model.specs.References.{end-of}
 use Rattle.model.specs.Headers.{header-span, most, file-type, file-format, header-at}
 use Rattle.model.specs.Nodes.{Node, referring}
 use Rattle.model.specs.Section.{Log, NodeList, Section, flat, list-fragments}
-use Rattle.model.specs.OpenedLog.{log-from}
+use Rattle.model.specs.OpenedLog.{log-from, reading}
 use Rattle.model.specs.OpenedLists.{named-first, lists-from}
-use Rattle.model.specs.Opened.{header-checks, data-checks, opened}
+use Rattle.model.specs.Opened.{header-checks, data-checks, opened, all-data, last-part, part-lists, part-log}
 use Rattle.model.specs.Means.{Apart, Headed, data-spans, Means, In-order}
 use Rattle.model.specs.Laws.{Meant-opens}
-use Rattle.meaning.proofs.Base.{Clean, unless-clean, all-front, all-join, apart-overlaps}
+use Rattle.meaning.proofs.Base.{Clean, unless-clean, all-front, apart-overlaps, Data-fits, references}
 use Rattle.meaning.proofs.Members.{In, has-from-in, in-map, in-flat, in-unflat, all-in, all-from-in}
-use Rattle.meaning.proofs.ReadLog.{reading, logs-read}
+use Rattle.meaning.proofs.ReadLog.{logs-read}
 use Rattle.meaning.proofs.ReadQueue.{Stock, Right, lists-read, lists-read-in-order}
 
 -- header -----------------------------------------------------------------------------------------------------------
@@ -40,7 +41,7 @@ same-row-self (x ∷ xs) = and-from (eqb x x) (same-row xs xs) (grind (arith, te
 is-row : (xs ys : List ℕ) → xs ≡ ys → not (same-row xs ys) ≡ false
 is-row xs ys e = ap (λ w. not (same-row w ys)) e ∙ ap not (same-row-self ys)
 
--- HEADER: one that is right passes
+-- a header that is right passes
 pub headed-passes : (b : List ℕ) (h : Header) → Headed b h → Clean (header-checks b)
 headed-passes b h r =
     let e : h .end ≡ le 8 b 0xC4 = ap (λ (h : Header). h .end) (r .fields) in
@@ -59,44 +60,38 @@ headed-passes b h r =
 
 -- data -------------------------------------------------------------------------------------------------------------
 
-abbrev pub Data-fits : ℕ → List Span → Node → Type 0
-Data-fits end fs n = (end-of (n .reference) ≤ end) × Apart (n .reference) header-span × All (Apart (n .reference)) fs
-
-data-passes : (end : ℕ) (fs : List Span) (id : ℕ) (ns : List Node) → All (Data-fits end fs) ns → Clean (data-checks end fs id ns)
+data-passes : (end : ℕ) (fs : List Span) (id : ℕ) (ns : List Node) → All (λ n. Data-fits end fs (n .reference)) ns → Clean (data-checks end fs id ns)
 data-passes end fs id [] a = tt
-data-passes end fs id (n ∷ ns) ((x, y, z), a) =
+data-passes end fs id (n ∷ ns) ((x, (y, z)), a) =
     let e : ltb end (end-of (n .reference)) ≡ false = grind (arith, tells) in
     (e, (apart-overlaps (n .reference) fs y z, data-passes end fs id ns a))
 
 all-flat : {X Y : Type 0} (P : Y → Type 0) (f : X → List Y) (xs : List X) → ((x : X) → In x xs → All P (f x)) → All P (flat (map f xs))
 all-flat P f [] k = tt
-all-flat P f (x ∷ xs) k = all-join P (f x) (flat (map f xs)) (k x (inl refl)) (all-flat P f xs (λ y i. k y (inr i)))
+all-flat P f (x ∷ xs) k = all-append P (f x) (flat (map f xs)) (k x (inl refl)) (all-flat P f xs (λ y i. k y (inr i)))
 
 -- the fragments of the same lists in another order
 same-fragments : (log : Log) (S T : List NodeList) (P : Span → Type 0) → ((l : NodeList) → In l T → In l S)
     → All P (log .fragments ++ list-fragments S) → All P (log .fragments ++ list-fragments T)
 same-fragments log S T P k a =
     let (u, v) = all-front P (log .fragments) (list-fragments S) a in
-    all-join P (log .fragments) (list-fragments T) u (all-from-in P (list-fragments T) (λ f i.
-      let (l, j, w) = in-unflat (λ (l : NodeList). l .fragments) T f i in
-      all-in P (list-fragments S) f v (in-flat (λ (l : NodeList). l .fragments) S l f (k l j) w)))
+    all-append P (log .fragments) (list-fragments T) u (all-from-in P (list-fragments T) (λ f i.
+    let (l, j, w) = in-unflat (λ (l : NodeList). l .fragments) T f i in
+    all-in P (list-fragments S) f v (in-flat (λ (l : NodeList). l .fragments) S l f (k l j) w)))
 
-abbrev pub all-data : Header → Log → List NodeList → List Check
-all-data h log ls = flat (map (λ l. data-checks (h .end) (log .fragments ++ list-fragments ls) (l .id) (referring 1 (l .nodes))) ls)
-
--- DATA: references that are right pass
+-- references to data that are right pass
 pub data-clean : (h : Header) (log : Log) (S T : List NodeList) → ((l : NodeList) → In l T → In l S)
     → All (λ r. end-of r ≤ h .end) (data-spans S) → All (λ r. All (Apart r) (header-span ∷ (log .fragments ++ list-fragments S))) (data-spans S)
     → Clean (all-data h log T)
 data-clean h log S T k inside apart =
     all-flat (λ (c : Check). c .0 ≡ false) (λ (l : NodeList). data-checks (h .end) (log .fragments ++ list-fragments T) (l .id) (referring 1 (l .nodes))) T (λ l i.
-      data-passes (h .end) (log .fragments ++ list-fragments T) (l .id) (referring 1 (l .nodes))
-        (all-from-in (Data-fits (h .end) (log .fragments ++ list-fragments T)) (referring 1 (l .nodes)) (λ n j.
-          let r : In (n .reference) (data-spans S)
-              = in-flat (λ (l : NodeList). map (λ (n : Node). n .reference) (referring 1 (l .nodes))) S l (n .reference) (k l i) (in-map (λ (n : Node). n .reference) (referring 1 (l .nodes)) n j) in
-          let a : All (Apart (n .reference)) (header-span ∷ (log .fragments ++ list-fragments S))
-              = all-in (λ r. All (Apart r) (header-span ∷ (log .fragments ++ list-fragments S))) (data-spans S) (n .reference) apart r in
-          (all-in (λ r. end-of r ≤ h .end) (data-spans S) (n .reference) inside r, a .0, same-fragments log S T (Apart (n .reference)) k (a .1)))))
+    data-passes (h .end) (log .fragments ++ list-fragments T) (l .id) (referring 1 (l .nodes))
+    (all-from-in (λ (n : Node). Data-fits (h .end) (log .fragments ++ list-fragments T) (n .reference)) (referring 1 (l .nodes)) (λ n j.
+    let r : In (n .reference) (data-spans S)
+    = in-flat (λ (l : NodeList). references (l .nodes)) S l (n .reference) (k l i) (in-map (λ (n : Node). n .reference) (referring 1 (l .nodes)) n j) in
+    let a : All (Apart (n .reference)) (header-span ∷ (log .fragments ++ list-fragments S))
+    = all-in (λ r. All (Apart r) (header-span ∷ (log .fragments ++ list-fragments S))) (data-spans S) (n .reference) apart r in
+    (all-in (λ r. end-of r ≤ h .end) (data-spans S) (n .reference) inside r, (a .0, same-fragments log S T (Apart (n .reference)) k (a .1))))))
 
 -- opening ----------------------------------------------------------------------------------------------------------
 
@@ -107,15 +102,6 @@ pub record Opens (b : List ℕ) (s : Section) : Type 0 where
   pub log : log-from 2048 b (s .header) [] 0xA0 (s .header .log) (reading [] []) ≡ done (s .log)
   pub lists : lists-from 1024 b (s .header) (s .log) (named-first (s .header)) [] ≡ done (s .lists)
   pub content : Clean (all-data (s .header) (s .log) (s .lists))
-
-abbrev pub last-part : Header → Log → List NodeList → Outcome Section
-last-part h log ls = unless (all-data h log ls) (done (record { header = h; log = log; lists = ls }))
-
-abbrev pub part-lists : List ℕ → Header → Log → Outcome Section
-part-lists b h log = then (lists-from 1024 b h log (named-first h) []) (last-part h log)
-
-abbrev pub part-log : List ℕ → Header → Outcome Section
-part-log b h = then (log-from 2048 b h [] 0xA0 (h .log) (reading [] [])) (part-lists b h)
 
 pub opened-step : (b : List ℕ) → opened b ≡ unless (header-checks b) (part-log b (header-at b))
 unfolding opened
@@ -129,7 +115,7 @@ opens-back b s o =
     ∙ ap (λ a. then a (last-part (s .header) (s .log))) (o .lists)
     ∙ unless-clean (all-data (s .header) (s .log) (s .lists)) _ (o .content)
 
--- COMPLETENESS -----------------------------------------------------------------------------------------------------
+-- the whole --------------------------------------------------------------------------------------------------------
 
 pub means-stock : (b : List ℕ) (s : Section) → Means b s → Stock (s .header) (s .log) (s .lists) (s .lists)
 means-stock b s m = record {
@@ -153,24 +139,31 @@ pub means-opens : (b : List ℕ) (s : Section) → Means b s
     → (T : List NodeList) × (opened b ≡ done (reordered s T)) × Stock (s .header) (s .log) (s .lists) T × In-order (s .header) T
 means-opens b s m =
     let (T, r, k, o) = lists-read 1024 b (s .header) (s .log) (s .lists) [] (s .lists) (named-first (s .header)) (means-right b s m) (means-stock b s m)
-        (ap (λ w. map (λ q. q .1) w) (append-nil (named-first (s .header)))) (m .few-lists) in
-    (T, opens-back b (reordered s T) (record {
-          checks = headed-passes b (s .header) (m .header);
-          header = sym (m .header .fields);
-          log = logs-read b (s .header) (s .log) (m .log) (m .header .counts);
-          lists = r;
-          content = data-clean (s .header) (s .log) (s .lists) T (k .to) (m .data-inside) (m .data-apart);
-        }), k, o)
+    (ap (λ w. map (λ q. q .1) w) (append-nil (named-first (s .header)))) (m .few-lists) in (
+      T,
+      opens-back b (reordered s T) (record {
+        checks = headed-passes b (s .header) (m .header);
+        header = sym (m .header .fields);
+        log = logs-read b (s .header) (s .log) (m .log) (m .header .counts);
+        lists = r;
+        content = data-clean (s .header) (s .log) (s .lists) T (k .to) (m .data-inside) (m .data-apart);
+      }),
+      k,
+      o,
+    )
 
 pub meant-opens : Meant-opens
 meant-opens b s m =
-    let (T, e, k, o) = means-opens b s m in
-    (reordered s T, e, record {
-      header = refl;
-      log = refl;
-      number = k .same;
-      lists = all-from-in (λ l. Has T l) (s .lists) (λ l i. has-from-in T l (k .from l i));
-    })
+    let (T, e, k, o) = means-opens b s m in (
+      reordered s T,
+      e,
+      record {
+        header = refl;
+        log = refl;
+        number = k .same;
+        lists = all-from-in (λ l. Has T l) (s .lists) (λ l i. has-from-in T l (k .from l i));
+      },
+    )
 
 -- and as s itself, if its lists stand in that order
 pub means-opens-in-order : (b : List ℕ) (s : Section) → Means b s → In-order (s .header) (s .lists) → opened b ≡ done s

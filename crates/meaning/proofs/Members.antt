@@ -103,7 +103,7 @@ pub in-at : {X : Type 0} (as′ bs : List X) (x : X) → In x (as′ ++ (x ∷ b
 in-at [] bs x = inl refl
 in-at (a ∷ as′) bs x = inr (in-at as′ bs x)
 
--- THE PIGEONHOLE: as many as differ, so many places
+-- elements that differ need as many places
 pub pigeon : {X : Type 0} (xs ys : List X) → Pairwise (λ x y. x ≢ y) xs → ((x : X) → In x xs → In x ys) → length xs ≤ length ys
 pigeon [] ys d k = omega arith
 pigeon (x ∷ xs) ys (p, d) k =

@@ -9,6 +9,7 @@ use lib.ListN.{length}
 use Rattle.std.specs.shelf.Lists.{All, Has}
 use Rattle.std.proofs.shelf.Lists.{append-nil, length-map}
 use Rattle.std.proofs.shelf.Ways.{tells}
+use Rattle.std.proofs.shelf.Elements.{all-append}
 use Rattle.model.specs.declared.types.Span.{Span}
 use Rattle.model.specs.declared.types.Header.{Header}
 use Rattle.model.specs.Bytes.{piece, same-row}
@@ -17,16 +18,15 @@ use Rattle.model.specs.References.{end-of}
 use Rattle.model.specs.Headers.{header-span, most, file-type, file-format, header-at}
 use Rattle.model.specs.Nodes.{Node, referring}
 use Rattle.model.specs.Section.{Log, NodeList, Section, flat, list-fragments, first-of}
-use Rattle.model.specs.OpenedLog.{log-from}
+use Rattle.model.specs.OpenedLog.{log-from, reading}
 use Rattle.model.specs.OpenedLists.{Named, named-first, lists-from}
-use Rattle.model.specs.Opened.{header-checks, data-checks, opened}
+use Rattle.model.specs.Opened.{header-checks, data-checks, opened, all-data, last-part, part-lists, part-log}
 use Rattle.model.specs.Means.{Apart, Pairwise, Headed, Logs, named-in, Reached, by-header, data-spans, Means, In-order}
 use Rattle.model.specs.Laws.{Opened-means, Same-lists}
-use Rattle.meaning.proofs.Base.{Clean, unless-done, then-done, all-front, all-join, overlaps-apart}
+use Rattle.meaning.proofs.Base.{Clean, unless-done, then-done, all-front, overlaps-apart, references}
 use Rattle.meaning.proofs.Members.{has-from-in, in-from-has, in-map, all-in, all-from-in}
-use Rattle.meaning.proofs.ReadLog.{reading}
 use Rattle.meaning.proofs.ReadQueue.{spans}
-use Rattle.meaning.proofs.MeantOpens.{Opens, all-data, last-part, part-lists, part-log, opened-step, means-opens, meant-opens, means-opens-in-order}
+use Rattle.meaning.proofs.MeantOpens.{Opens, opened-step, means-opens, meant-opens, means-opens-in-order}
 use Rattle.meaning.proofs.StandLog.{logs-stand}
 use Rattle.meaning.proofs.StandQueue.{So-far, lists-stand}
 
@@ -43,7 +43,7 @@ same-row-is (x ∷ xs) (y ∷ ys) e =
     let d = same-row-is xs ys c in
     cc
 
--- HEADER: one that passes is right
+-- a header that passes is right
 pub passes-headed : (b : List ℕ) → Clean (header-checks b) → Headed b (header-at b)
 passes-headed b (x, (y, (z, (w, (u, (v, t)))))) = record {
   fields = refl;
@@ -59,28 +59,26 @@ passes-headed b (x, (y, (z, (w, (u, (v, t)))))) = record {
 
 -- data -------------------------------------------------------------------------------------------------------------
 
-abbrev references : List Node → List Span
-references ns = map (λ n. n .reference) ns
-
 data-right : (end : ℕ) (fs : List Span) (id : ℕ) (ns : List Node) → Clean (data-checks end fs id ns)
-    → All (λ r. end-of r ≤ end) (references ns) × All (λ r. All (Apart r) (header-span ∷ fs)) (references ns)
+    → All (λ r. end-of r ≤ end) (map (λ n. n .reference) ns) × All (λ r. All (Apart r) (header-span ∷ fs)) (map (λ n. n .reference) ns)
 data-right end fs id [] c = (tt, tt)
 data-right end fs id (n ∷ ns) (x, (y, c)) =
     let l : end-of (n .reference) ≤ end = grind (arith, tells) in
     let (u, v) = data-right end fs id ns c in
     ((l, u), (overlaps-apart (n .reference) fs y, v))
 
--- DATA: references that pass are right
+-- references to data that pass are right
 pub all-data-right : (end : ℕ) (fs : List Span) (ls : List NodeList) → Clean (flat (map (λ l. data-checks end fs (l .id) (referring 1 (l .nodes))) ls))
     → All (λ r. end-of r ≤ end) (data-spans ls) × All (λ r. All (Apart r) (header-span ∷ fs)) (data-spans ls)
 all-data-right end fs [] c = (tt, tt)
 all-data-right end fs (l ∷ ls) c =
     let (x, y) = all-front (λ (c : Check). c .0 ≡ false) (data-checks end fs (l .id) (referring 1 (l .nodes)))
-        (flat (map (λ (l : NodeList). data-checks end fs (l .id) (referring 1 (l .nodes))) ls)) c in
+    (flat (map (λ (l : NodeList). data-checks end fs (l .id) (referring 1 (l .nodes))) ls)) c in
     let (u, v) = data-right end fs (l .id) (referring 1 (l .nodes)) x in
-    let (z, w) = all-data-right end fs ls y in
-    (all-join (λ (r : Span). end-of r ≤ end) (references (referring 1 (l .nodes))) (data-spans ls) u z,
-      all-join (λ (r : Span). All (Apart r) (header-span ∷ fs)) (references (referring 1 (l .nodes))) (data-spans ls) v w)
+    let (z, w) = all-data-right end fs ls y in (
+      all-append (λ (r : Span). end-of r ≤ end) (references (l .nodes)) (data-spans ls) u z,
+      all-append (λ (r : Span). All (Apart r) (header-span ∷ fs)) (references (l .nodes)) (data-spans ls) v w,
+    )
 
 -- opening ----------------------------------------------------------------------------------------------------------
 
@@ -100,7 +98,7 @@ opens b s e =
     let q : record { header = header-at b; log = log; lists = ls } ≡ s = cc in
     opens-with b s log ls c x z k q
 
--- SOUNDNESS --------------------------------------------------------------------------------------------------------
+-- the whole --------------------------------------------------------------------------------------------------------
 
 -- lists that name each of them, in their order
 named-from-order : (h : Header) (ls : List NodeList) → In-order h ls → All (λ q. Has (map first-of ls) (q .1)) (named-in h ls)
@@ -122,29 +120,31 @@ opens-meant b s o =
     let logs : Logs b h log = logs-stand b h log (o .log) in
     let nil = append-nil (log .fragments) in
     let start : So-far b h log [] (named-first h) = record {
-          apart = subst (λ w. Pairwise Apart (header-span ∷ w)) (sym nil) (logs .part .apart);
-          ids = tt;
-          order = ap spans (append-nil (named-first h));
-          few = subst (λ w. length w ≤ 2048) (sym nil) (logs .part .few);
-          stands = tt;
-        } in
+      apart = subst (λ w. Pairwise Apart (header-span ∷ w)) (sym nil) (logs .part .apart);
+      ids = tt;
+      order = ap spans (append-nil (named-first h));
+      few = subst (λ w. length w ≤ 2048) (sym nil) (logs .part .few);
+      stands = tt;
+    } in
     let r = lists-stand 1024 b h log (named-first h) [] (s .lists) start (o .lists) in
     let order : In-order h (s .lists) = sym (r .far .order ∙ append-nil (map first-of (s .lists))) in
-    let (inside, apart) = all-data-right (h .end) (log .fragments ++ list-fragments (s .lists)) (s .lists) (o .content) in
-    (record {
-      header = headed;
-      log = logs;
-      lists = r .far .stands;
-      reached = subst (λ w. All (λ (l : NodeList). Reached h (s .lists) (first-of l)) w) (sym (r .is)) (r .reached (first-reached h (s .lists)));
-      named = named-from-order h (s .lists) order;
-      once = once-from-order h (s .lists) order;
-      ids-differ = r .far .ids;
-      fragments-apart = r .far .apart;
-      data-inside = inside;
-      data-apart = apart;
-      few-lists = subst (λ w. length w ≤ 1024) (sym (r .is)) (r .few-lists);
-      few-fragments = r .far .few;
-    }, order)
+    let (inside, apart) = all-data-right (h .end) (log .fragments ++ list-fragments (s .lists)) (s .lists) (o .content) in (
+      record {
+        header = headed;
+        log = logs;
+        lists = r .far .stands;
+        reached = subst (λ w. All (λ (l : NodeList). Reached h (s .lists) (first-of l)) w) (sym (r .is)) (r .reached (first-reached h (s .lists)));
+        named = named-from-order h (s .lists) order;
+        once = once-from-order h (s .lists) order;
+        ids-differ = r .far .ids;
+        fragments-apart = r .far .apart;
+        data-inside = inside;
+        data-apart = apart;
+        few-lists = subst (λ w. length w ≤ 1024) (sym (r .is)) (r .few-lists);
+        few-fragments = r .far .few;
+      },
+      order,
+    )
 
 pub opens-means : (b : List ℕ) (s : Section) → opened b ≡ done s → Means b s × In-order (s .header) (s .lists)
 opens-means b s e = opens-meant b s (opens b s e)
@@ -170,7 +170,7 @@ means-one b s t m n =
       log = z .log;
       number = sym (y .same) ∙ z .number;
       lists = all-from-in (λ (l : NodeList). Has (t .lists) l) (s .lists) (λ l j.
-        has-from-in (t .lists) l (y .to l (in-from-has v l (all-in (λ (l : NodeList). Has v l) (s .lists) l (z .lists) j))));
+          has-from-in (t .lists) l (y .to l (in-from-has v l (all-in (λ (l : NodeList). Has v l) (s .lists) l (z .lists) j))));
     }
 
 -- and one section in that order

@@ -2,7 +2,7 @@
 -- Assumes nothing.
 use Prim.Native.Nat.{ℕ, zero, suc, _+_, _-_, _<_, _≤_}
 use mathlib.Core.Path.{_≡_, refl, sym, ap, _∙_, subst}
-use mathlib.Core.Bool.{true, false, cond, not, _&&_, _||_}
+use mathlib.Core.Bool.{true, false, not, _||_}
 use mathlib.Core.List.{List, [], _∷_, _++_}
 use native.Mathlib.Omega.{arith}
 use lib.Dec.{eqb, ltb}
@@ -14,14 +14,13 @@ use Rattle.std.proofs.shelf.Tests.{and-right}
 use Rattle.model.specs.declared.types.Span.{Span}
 use Rattle.model.specs.declared.types.Header.{Header}
 use Rattle.model.specs.Bytes.{le}
-use Rattle.model.specs.Faults.{fault, Outcome, done, Check, unless, then}
+use Rattle.model.specs.Faults.{done, unless, then}
 use Rattle.model.specs.References.{span-at}
 use Rattle.model.specs.Headers.{header-span}
 use Rattle.model.specs.Nodes.{Node, node-at, hands-over}
 use Rattle.model.specs.ListFragments.{owner, unmarked, sequence, nodes-from, nodes-to}
 use Rattle.model.specs.Section.{Log, NodeList, last-of, count-in, first-of}
-use Rattle.model.specs.OpenedLog.{outside, overlaps}
-use Rattle.model.specs.OpenedLists.{NodePart, counted, uncounted, nodes-at, taken, list-from}
+use Rattle.model.specs.OpenedLists.{NodePart, counted, uncounted, nodes-at, taken, list-from, list-goes, list-checks}
 use Rattle.model.specs.Means.{Apart, Pairwise, Inside, Nodes, Spread, within, across, Marked, Numbered, Stands}
 use Rattle.meaning.proofs.Meant.{good-stays, good-passes, nodes-read}
 use Rattle.meaning.proofs.Base.{Clean, unless-clean, inside-passes, apart-overlaps, apart-before}
@@ -61,24 +60,10 @@ spread-some b f (g ∷ gs) ms q (across ns ks p w h e r a) l =
 
 -- fragments --------------------------------------------------------------------------------------------------------
 
--- what comes after a fragment's nodes
-abbrev pub list-goes : ℕ → List ℕ → ℕ → ℕ → List NodeList → List Span → ℕ → Span → List Span → NodePart → Outcome NodeList
-list-goes n b end count ls before id f fs (counted ms q) = done (record { id = id; fragments = fs ++ (f ∷ []); nodes = ms; free = q })
-list-goes n b end count ls before id f fs (uncounted ms) = list-from n b end count ls before id (nodes-to f) (span-at b (nodes-to f)) (fs ++ (f ∷ [])) ms
-
-abbrev pub list-checks : List ℕ → ℕ → ℕ → List NodeList → List Span → ℕ → ℕ → Span → List Span → List Check
-list-checks b end count ls before id field f fs =
-    (outside 36 end f, fault 5 3 field (cond (eqb (length fs) 0) 0 id))
-    ∷ (overlaps f (before ++ fs), fault 11 3 field (cond (eqb (length fs) 0) 0 id))
-    ∷ (unmarked b f || not (eqb (sequence b f) (length fs)) || not (eqb (owner b f) id) || ltb id 16, fault 8 3 (f .start) (cond (eqb (length fs) 0) 0 id))
-    ∷ (eqb (length fs) 0 && taken id ls, fault 12 3 (f .start) id)
-    ∷ (eqb (length fs) 0 && eqb count 0, fault 10 3 (f .start) id)
-    ∷ []
-
 pub list-step : (n : ℕ) (b : List ℕ) (end count : ℕ) (ls : List NodeList) (before : List Span) (id field : ℕ) (f : Span) (fs : List Span) (ns : List Node)
     → list-from (suc n) b end count ls before id field f fs ns
-      ≡ unless (list-checks b end count ls before id field f fs)
-          (then (nodes-at (count - length ns) b id (nodes-to f) (nodes-from f) ns) (list-goes n b end count ls before id f fs))
+    ≡ unless (list-checks b end count ls before id field f fs)
+    (then (nodes-at (count - length ns) b id (nodes-to f) (nodes-from f) ns) (list-goes (list-from n b end count ls before id) b id f fs))
 unfolding list-from
 list-step n b end count ls before id field f fs ns = refl
 
@@ -96,21 +81,28 @@ list-passes : (b : List ℕ) (end count : ℕ) (ls : List NodeList) (before : Li
     → Clean (list-checks b end count ls before id field f fs)
 list-passes b end count ls before id field f fs gs i m r a t c =
     let p = apart-before (header-span ∷ (before ++ fs)) f gs a in
-    let z : eqb count 0 ≡ false = grind (arith, tells) in
-    (inside-passes 36 end f (omega arith) i,
-      (apart-overlaps f (before ++ fs) (p .0) (p .1),
-        (marked-passes b id (length fs) f m r,
-          (and-right (eqb (length fs) 0) (taken id ls) t,
-            (and-right (eqb (length fs) 0) (eqb count 0) z, tt)))))
+    let z : eqb count 0 ≡ false = grind (arith, tells) in (
+      inside-passes 36 end f (omega arith) i,
+      (
+        apart-overlaps f (before ++ fs) (p .0) (p .1),
+        (
+          marked-passes b id (length fs) f m r,
+          (
+            and-right (eqb (length fs) 0) (taken id ls) t,
+            (and-right (eqb (length fs) 0) (eqb count 0) z, tt),
+          ),
+        ),
+      ),
+    )
 
 list-part : (n : ℕ) (b : List ℕ) (end count : ℕ) (ls : List NodeList) (before : List Span) (id field : ℕ) (f : Span) (fs gs : List Span) (ns : List Node) (a : NodePart)
     → Inside 36 end f → Marked b id (length fs) f → 16 ≤ id → Pairwise Apart (header-span ∷ ((before ++ fs) ++ (f ∷ gs))) → taken id ls ≡ false → 1 ≤ count
     → nodes-at (count - length ns) b id (nodes-to f) (nodes-from f) ns ≡ done a
-    → list-from (suc n) b end count ls before id field f fs ns ≡ list-goes n b end count ls before id f fs a
+    → list-from (suc n) b end count ls before id field f fs ns ≡ list-goes (list-from n b end count ls before id) b id f fs a
 list-part n b end count ls before id field f fs gs ns a i m r p t c e =
     list-step n b end count ls before id field f fs ns
     ∙ unless-clean (list-checks b end count ls before id field f fs) _ (list-passes b end count ls before id field f fs gs i m r p t c)
-    ∙ ap (λ w. then w (list-goes n b end count ls before id f fs)) e
+    ∙ ap (λ w. then w (list-goes (list-from n b end count ls before id) b id f fs)) e
 
 abbrev pub list-is : ℕ → List Span → List Node → ℕ → NodeList
 list-is id fs ns q = record { id = id; fragments = fs; nodes = ns; free = q }
@@ -123,7 +115,7 @@ list-more : (n : ℕ) (b : List ℕ) (end count : ℕ) (ls : List NodeList) (bef
     → list-from (suc n) b end count ls before id field f fs ns ≡ done (list-is id (fs ++ (f ∷ (g ∷ gs))) (ns ++ all) q)
 list-more n b end count ls before id field f g gs fs ns ks ms all p q w h e a i m r ap′ t c l ih =
     list-part n b end count ls before id field f fs (g ∷ gs) ns (uncounted (ns ++ ks)) i m r ap′ t c
-      (nodes-hand (count - length ns) b id (nodes-to f) (nodes-from f) ns ks p w h (omega arith))
+    (nodes-hand (count - length ns) b id (nodes-to f) (nodes-from f) ns ks p w h (omega arith))
     ∙ ap (λ x. list-from n b end count ls before id (nodes-to f) x (fs ++ (f ∷ [])) (ns ++ ks)) (sym e)
     ∙ ih
     ∙ ap (λ x. done (list-is id x ((ns ++ ks) ++ ms) q)) (append-assoc fs (f ∷ []) (g ∷ gs))
@@ -137,19 +129,19 @@ pub list-reads : (n : ℕ) (b : List ℕ) (end count : ℕ) (ls : List NodeList)
 list-reads zero b end count ls before id field f gs fs ns ms q s i m r a t c k l n≤ = absurd (omega arith)
 list-reads (suc n) b end count ls before id field f [] fs ns ms q (within w) i m r a t c k l n≤ =
     list-part n b end count ls before id field f fs [] ns (counted (ns ++ ms) q) (i .0) (m .0) r a t c
-      (nodes-count (count - length ns) b id (nodes-to f) (nodes-from f) ns ms q w (omega arith))
+    (nodes-count (count - length ns) b id (nodes-to f) (nodes-from f) ns ms q w (omega arith))
 list-reads (suc n) b end count ls before id field f (g ∷ gs) fs ns ms q (across ks js p w h e s split) i m r a t c k l n≤ =
     let some = spread-some b g gs js q s l in
     let long : length ms ≡ length ks + length js = ap length split ∙ length-append ks js in
     let long′ : length (ns ++ ks) ≡ length ns + length ks = length-append ns ks in
     let num : Numbered b id (length (fs ++ (f ∷ []))) (g ∷ gs) = subst (λ x. Numbered b id x (g ∷ gs)) (sym (length-push fs f)) (m .1) in
     let apart : Pairwise Apart (header-span ∷ ((before ++ (fs ++ (f ∷ []))) ++ (g ∷ gs)))
-        = subst (λ x. Pairwise Apart (header-span ∷ x))
-            (sym (append-assoc (before ++ fs) (f ∷ []) (g ∷ gs)) ∙ ap (λ x. x ++ (g ∷ gs)) (append-assoc before fs (f ∷ []))) a in
+    = subst (λ x. Pairwise Apart (header-span ∷ x))
+    (sym (append-assoc (before ++ fs) (f ∷ []) (g ∷ gs)) ∙ ap (λ x. x ++ (g ∷ gs)) (append-assoc before fs (f ∷ []))) a in
     list-more n b end count ls before id field f g gs fs ns ks js ms p q w h e split (i .0) (m .0) r a t c (omega arith)
-      (list-reads n b end count ls before id (nodes-to f) g gs (fs ++ (f ∷ [])) (ns ++ ks) js q s (i .1) num r apart t c (omega arith) l (omega arith))
+    (list-reads n b end count ls before id (nodes-to f) g gs (fs ++ (f ∷ [])) (ns ++ ks) js q s (i .1) num r apart t c (omega arith) l (omega arith))
 
--- LIST: a list that stands is read, from the reference to its first fragment
+-- a list that stands is read, from the reference to its first fragment
 stands-with : (n : ℕ) (b : List ℕ) (h : Header) (log : Log) (ls : List NodeList) (before : List Span) (id field : ℕ) (fs : List Span) (ms : List Node) (q : ℕ)
     → Stands b h log (list-is id fs ms q) → Pairwise Apart (header-span ∷ (before ++ fs)) → taken id ls ≡ false → length fs ≤ n
     → list-from n b (h .end) (count-in (log .transactions) id) ls before id field (first-of (list-is id fs ms q)) [] [] ≡ done (list-is id fs ms q)
@@ -158,7 +150,7 @@ stands-with n b h log ls before id field (f ∷ fs) ms q s a t l =
     let some = spread-some b f fs ms q (s .part .spread) (s .ends) in
     let c : length ms ≡ count-in (log .transactions) id = s .counted in
     list-reads n b (h .end) (count-in (log .transactions) id) ls before id field f fs [] [] ms q (s .part .spread) (s .part .inside) (s .part .marks) (s .part .real)
-      (subst (λ x. Pairwise Apart (header-span ∷ (x ++ (f ∷ fs)))) (sym (append-nil before)) a) t (omega arith) (omega arith) (s .ends) l
+    (subst (λ x. Pairwise Apart (header-span ∷ (x ++ (f ∷ fs)))) (sym (append-nil before)) a) t (omega arith) (omega arith) (s .ends) l
 
 pub stands-read : (n : ℕ) (b : List ℕ) (h : Header) (log : Log) (ls : List NodeList) (before : List Span) (field : ℕ) (l : NodeList)
     → Stands b h log l → Pairwise Apart (header-span ∷ (before ++ l .fragments)) → taken (l .id) ls ≡ false → length (l .fragments) ≤ n

@@ -14,17 +14,14 @@ use Rattle.std.proofs.shelf.Ways.{tells}
 use Rattle.model.specs.declared.types.Span.{Span}
 use Rattle.model.specs.declared.types.Entry.{Entry}
 use Rattle.model.specs.declared.types.Header.{Header}
-use Rattle.model.specs.Faults.{fault, Outcome, done, unless, then}
+use Rattle.model.specs.Faults.{done, unless, then}
 use Rattle.model.specs.References.{span-at}
 use Rattle.model.specs.Headers.{header-span}
 use Rattle.model.specs.LogFragments.{entry-at, sentinel, entries-in, entry-place, log-next}
 use Rattle.model.specs.Section.{Log, flat, last-of, latest}
-use Rattle.model.specs.OpenedLog.{outside, overlaps, Reading, LogPart, finished, unfinished, log-entries, log-from}
+use Rattle.model.specs.OpenedLog.{Reading, LogPart, finished, unfinished, log-entries, log-from, reading, log-goes, log-checks}
 use Rattle.model.specs.Means.{Apart, Pairwise, Inside, Chain, entries-of, log-row, closed, Counts-lists, Rising, Logs}
 use Rattle.meaning.proofs.Base.{Clean, unless-clean, inside-passes, apart-overlaps, apart-before}
-
-abbrev pub reading : List (List Entry) → List Entry → Reading
-reading ts pending = record { transactions = ts; pending = pending }
 
 -- where a log is that is right: ts are read, and `pending` of the next transaction; of that t is left, and the transactions us behind it
 -- what is left of the row
@@ -77,7 +74,7 @@ step-count n b count f i ts pending e q s l =
 step-sentinel : (n : ℕ) (b : List ℕ) (count : ℕ) (f : Span) (i : ℕ) (ts : List (List Entry)) (pending : List Entry)
     → entry-at b (entry-place f i) ≡ sentinel pending
     → log-entries (suc n) b count f i (reading ts pending)
-      ≡ cond (eqb (length (ts ++ (pending ∷ []))) count) (done (finished (ts ++ (pending ∷ [])) (i + 1))) (log-entries n b count f (i + 1) (reading (ts ++ (pending ∷ [])) []))
+    ≡ cond (eqb (length (ts ++ (pending ∷ []))) count) (done (finished (ts ++ (pending ∷ [])) (i + 1))) (log-entries n b count f (i + 1) (reading (ts ++ (pending ∷ [])) []))
 unfolding log-entries
 step-sentinel n b count f i ts pending q =
     let x : eqb (sentinel pending .number) (sentinel pending .number) ≡ true = grind (arith, tells) in
@@ -115,7 +112,7 @@ entries-on (suc n) b count f i ts pending [] (u ∷ us) es a c q l =
     let x : entry-at b (entry-place f i) ≡ sentinel pending = cc in
     let y : entries-of b f (i + 1) n ++ es ≡ left [] u us = cc in
     let w : (ts ++ (pending ∷ [])) ++ (u ∷ us) ≡ ts ++ ((pending ++ []) ∷ (u ∷ us))
-        = append-assoc ts (pending ∷ []) (u ∷ us) ∙ ap (λ z. ts ++ (z ∷ (u ∷ us))) (sym (append-nil pending)) in
+    = append-assoc ts (pending ∷ []) (u ∷ us) ∙ ap (λ z. ts ++ (z ∷ (u ∷ us))) (sym (append-nil pending)) in
     let c′ : length ((ts ++ (pending ∷ [])) ++ (u ∷ us)) ≡ count = ap length w ∙ c in
     let long = length-append (ts ++ (pending ∷ [])) (u ∷ us) in
     let more : eqb (length (ts ++ (pending ∷ []))) count ≡ false = grind (arith, tells) in
@@ -154,7 +151,7 @@ entries-end (suc m) (suc n) b count f i ts pending [] (u ∷ us) a c q l =
     let x : entry-at b (entry-place f i) ≡ sentinel pending = cc in
     let y : entries-of b f (i + 1) m ≡ left [] u us = cc in
     let w : (ts ++ (pending ∷ [])) ++ (u ∷ us) ≡ ts ++ ((pending ++ []) ∷ (u ∷ us))
-        = append-assoc ts (pending ∷ []) (u ∷ us) ∙ ap (λ z. ts ++ (z ∷ (u ∷ us))) (sym (append-nil pending)) in
+    = append-assoc ts (pending ∷ []) (u ∷ us) ∙ ap (λ z. ts ++ (z ∷ (u ∷ us))) (sym (append-nil pending)) in
     let c′ : length ((ts ++ (pending ∷ [])) ++ (u ∷ us)) ≡ count = ap length w ∙ c in
     let long = length-append (ts ++ (pending ∷ [])) (u ∷ us) in
     let more : eqb (length (ts ++ (pending ∷ []))) count ≡ false = grind (arith, tells) in
@@ -164,19 +161,15 @@ entries-end (suc m) (suc n) b count f i ts pending [] (u ∷ us) a c q l =
 
 -- fragments --------------------------------------------------------------------------------------------------------
 
-abbrev pub log-goes : ℕ → List ℕ → Header → List Span → Span → LogPart → Outcome Log
-log-goes n b h fs f (finished ts used) = done (record { fragments = fs ++ (f ∷ []); transactions = ts; used = used })
-log-goes n b h fs f (unfinished r) = log-from n b h (fs ++ (f ∷ [])) (log-next f) (span-at b (log-next f)) r
-
 pub log-step : (n : ℕ) (b : List ℕ) (h : Header) (fs : List Span) (field : ℕ) (f : Span) (r : Reading)
     → log-from (suc n) b h fs field f r
-      ≡ unless ((outside 12 (h .end) f, fault 5 2 field 0) ∷ (overlaps f fs, fault 11 2 field 0) ∷ [])
-          (then (log-entries (entries-in (f .size)) b (h .count) f 0 r) (log-goes n b h fs f))
+    ≡ unless (log-checks (h .end) fs field f)
+    (then (log-entries (entries-in (f .size)) b (h .count) f 0 r) (log-goes (log-from n b h) b fs f))
 unfolding log-from
 log-step n b h fs field f r = refl
 
 log-passes : (h : Header) (fs : List Span) (field : ℕ) (f : Span) (gs : List Span) → Inside 12 (h .end) f → Pairwise Apart (header-span ∷ (fs ++ (f ∷ gs)))
-    → Clean ((outside 12 (h .end) f, fault 5 2 field 0) ∷ (overlaps f fs, fault 11 2 field 0) ∷ [])
+    → Clean (log-checks (h .end) fs field f)
 log-passes h fs field f gs i a =
     let c = apart-before (header-span ∷ fs) f gs a in
     (inside-passes 12 (h .end) f (omega arith) i, (apart-overlaps f fs (c .0) (c .1), tt))
@@ -184,10 +177,10 @@ log-passes h fs field f gs i a =
 -- where a log goes after a fragment's entries
 log-part : (n : ℕ) (b : List ℕ) (h : Header) (fs : List Span) (field : ℕ) (f : Span) (gs : List Span) (r : Reading) (a : LogPart)
     → Inside 12 (h .end) f → Pairwise Apart (header-span ∷ (fs ++ (f ∷ gs))) → log-entries (entries-in (f .size)) b (h .count) f 0 r ≡ done a
-    → log-from (suc n) b h fs field f r ≡ log-goes n b h fs f a
+    → log-from (suc n) b h fs field f r ≡ log-goes (log-from n b h) b fs f a
 log-part n b h fs field f gs r a i p e =
-    log-step n b h fs field f r ∙ unless-clean ((outside 12 (h .end) f, fault 5 2 field 0) ∷ (overlaps f fs, fault 11 2 field 0) ∷ []) _ (log-passes h fs field f gs i p)
-    ∙ ap (λ w. then w (log-goes n b h fs f)) e
+    log-step n b h fs field f r ∙ unless-clean (log-checks (h .end) fs field f) _ (log-passes h fs field f gs i p)
+    ∙ ap (λ w. then w (log-goes (log-from n b h) b fs f)) e
 
 length-entries : (b : List ℕ) (f : Span) (i n : ℕ) → length (entries-of b f i n) ≡ n
 length-entries b f i zero = refl
@@ -221,8 +214,8 @@ log-reads (suc n) b h fs field f [] used ts pending t us c i p l a k q u o =
 log-reads (suc n) b h fs field f (g ∷ gs) used ts pending t us c i p l a k q u o =
     let (ts′, pending′, t′, us′, go, r, w, a′) = entries-on (entries-in (f .size)) b (h .count) f 0 ts pending t us (log-row b (g ∷ gs) used) a k q (row-some b g gs used o) in
     log-more n b h fs field f g gs used ts pending t us ts′ pending′ t′ us′ (c .0) (i .0) p go w
-      (log-reads n b h (fs ++ (f ∷ [])) (log-next f) g gs used ts′ pending′ t′ us′ (c .1) (i .1)
-        (subst (λ x. Pairwise Apart (header-span ∷ x)) (sym (append-assoc fs (f ∷ []) (g ∷ gs))) p) (omega arith) a′ (ap length w ∙ k) r u o)
+    (log-reads n b h (fs ++ (f ∷ [])) (log-next f) g gs used ts′ pending′ t′ us′ (c .1) (i .1)
+    (subst (λ x. Pairwise Apart (header-span ∷ x)) (sym (append-assoc fs (f ∷ []) (g ∷ gs))) p) (omega arith) a′ (ap length w ∙ k) r u o)
   where
     log-more : (n : ℕ) (b : List ℕ) (h : Header) (fs : List Span) (field : ℕ) (f g : Span) (gs : List Span) (used : ℕ)
         (ts : List (List Entry)) (pending t : List Entry) (us ts′ : List (List Entry)) (pending′ t′ : List Entry) (us′ : List (List Entry))
@@ -249,15 +242,15 @@ logs-with b h (f ∷ fs) [] used l o = absurd (let x : _≡_ {A = ℕ} 0 (h .cou
 logs-with b h (f ∷ fs) (t ∷ ts) used l o =
     let e : f ≡ h .log = l .part .chain .0 in
     let q : log-row b (f ∷ fs) used ≡ left [] t ts
-        = l .part .row ∙ append-nil (flat (map closed (t ∷ ts))) ∙ append-assoc t (sentinel t ∷ []) (flat (map closed ts)) in
+    = l .part .row ∙ append-nil (flat (map closed (t ∷ ts))) ∙ append-assoc t (sentinel t ∷ []) (flat (map closed ts)) in
     let a : Ahead [] [] t ts = record {
-          lists = l .part .lists .0;
-          later = l .part .lists .1;
-          rising = subst (λ x. Rising [] x) (append-nil (flat (t ∷ ts))) (l .part .rising);
-        } in
+      lists = l .part .lists .0;
+      later = l .part .lists .1;
+      rising = subst (λ x. Rising [] x) (append-nil (flat (t ∷ ts))) (l .part .rising);
+    } in
     ap (λ x. log-from 2048 b h [] 0xA0 x (reading [] [])) (sym e)
     ∙ log-reads 2048 b h [] 0xA0 f fs used [] [] t ts (l .part .chain .1) (l .part .inside) (l .part .apart) (l .part .few) a (l .finished) q (l .part .places) (l .ends)
 
--- LOG: a log that is right is read
+-- a log that is right is read
 pub logs-read : (b : List ℕ) (h : Header) (l : Log) → Logs b h l → 1 ≤ h .count → log-from 2048 b h [] 0xA0 (h .log) (reading [] []) ≡ done l
 logs-read b h l g o = logs-with b h (l .fragments) (l .transactions) (l .used) g o

@@ -12,16 +12,17 @@ use Rattle.std.specs.shelf.Lists.{All, Has}
 use Rattle.std.proofs.shelf.Lists.{append-assoc, append-nil, length-append, length-map, map-append, append-cancel-left}
 use Rattle.std.proofs.shelf.Ways.{tells}
 use Rattle.std.proofs.shelf.Tests.{or-from}
+use Rattle.std.proofs.shelf.Elements.{all-weaker}
 use Rattle.model.specs.declared.types.Span.{Span}
 use Rattle.model.specs.declared.types.Header.{Header}
-use Rattle.model.specs.Faults.{Outcome, done, then}
+use Rattle.model.specs.Faults.{done, then}
 use Rattle.model.specs.References.{span}
 use Rattle.model.specs.Headers.{header-span}
 use Rattle.model.specs.ListFragments.{owner}
 use Rattle.model.specs.Section.{Log, NodeList, flat, count-in, list-fragments, first-of}
-use Rattle.model.specs.OpenedLists.{taken, list-from, Named, named-by, named-first, lists-from}
+use Rattle.model.specs.OpenedLists.{taken, list-from, Named, named-by, named-first, lists-from, named-list}
 use Rattle.model.specs.Means.{Apart, Pairwise, Spread, Numbered, Stands, named-in, Reached, by-header, by-node, In-order}
-use Rattle.meaning.proofs.Base.{pairs-split, pairs-move-in, apart-back, Cross, all-map}
+use Rattle.meaning.proofs.Base.{pairs-split, pairs-move-in, apart-back, Cross}
 use Rattle.meaning.proofs.Members.{In, in-from-has, in-left, in-right, in-cases, in-map, in-unmap, in-flat, in-unflat, all-in, all-from-in, pick, in-without, in-with, in-at, pigeon, same-by-key, flat-append}
 use Rattle.meaning.proofs.ReadList.{stands-read}
 
@@ -56,9 +57,9 @@ moved-apart log ls as′ bs l a =
     let fa = list-fragments as′ in
     let fb = list-fragments bs in
     let a′ : Pairwise Apart (header-span ∷ ((log .fragments ++ fl) ++ (fa ++ (l .fragments ++ fb))))
-        = subst (λ w. Pairwise Apart (header-span ∷ w)) (ap (λ w. log .fragments ++ w) (moved-fragments (λ l. l .fragments) ls as′ bs l) ∙ sym (append-assoc (log .fragments) fl (fa ++ (l .fragments ++ fb)))) a in
+    = subst (λ w. Pairwise Apart (header-span ∷ w)) (ap (λ w. log .fragments ++ w) (moved-fragments (λ l. l .fragments) ls as′ bs l) ∙ sym (append-assoc (log .fragments) fl (fa ++ (l .fragments ++ fb)))) a in
     let c : Pairwise Apart (header-span ∷ ((log .fragments ++ fl) ++ (l .fragments ++ (fa ++ fb))))
-        = pairs-move-in Apart (header-span ∷ (log .fragments ++ fl)) fa (l .fragments) fb apart-back a′ in
+    = pairs-move-in Apart (header-span ∷ (log .fragments ++ fl)) fa (l .fragments) fb apart-back a′ in
     subst (λ w. Pairwise Apart (header-span ∷ w)) (append-assoc (log .fragments) fl (l .fragments ++ (fa ++ fb)) ∙ ap (λ w. log .fragments ++ w) (sym (moved-there (λ l. l .fragments) ls as′ bs l))) c
 
 length-moved : {X : Type 0} (xs ys zs ws : List X) → length (xs ++ (ys ++ (zs ++ ws))) ≡ length (xs ++ (zs ++ (ys ++ ws)))
@@ -128,11 +129,7 @@ not-taken id (k ∷ ls) (p, a) =
     or-from (eqb (k .id) id) (taken id ls) e (not-taken id ls a)
 
 cross-one : {X : Type 0} (R : X → X → Type 0) (xs ys : List X) (y : X) → Cross R xs (y ∷ ys) → All (λ x. R x y) xs
-cross-one R xs ys y c = all-map (λ x. All (R x) (y ∷ ys)) (λ x. R x y) xs (λ x a. a .0) c
-
-abbrev pub named-list : List ℕ → Header → Log → List NodeList → Named → ℕ → Outcome NodeList
-named-list b h log ls q id =
-    list-from (2048 - length (log .fragments ++ list-fragments ls)) b (h .end) (count-in (log .transactions) id) ls (log .fragments ++ list-fragments ls) id (q .0) (q .1) [] []
+cross-one R xs ys y c = all-weaker (λ x. All (R x) (y ∷ ys)) (λ x. R x y) (λ x a. a .0) xs c
 
 pub lists-step : (n : ℕ) (b : List ℕ) (h : Header) (log : Log) (q : Named) (qs : List Named) (ls : List NodeList)
     → lists-from (suc n) b h log (q ∷ qs) ls ≡ then (named-list b h log ls q (owner b (q .1))) (λ l. lists-from n b h log (qs ++ named-by l) (ls ++ (l ∷ [])))
@@ -150,12 +147,12 @@ next-read b h log S ls rest q l k s e =
     let before = log .fragments ++ list-fragments ls in
     let id : owner b (q .1) ≡ l .id = ap (λ f. owner b f) (sym e) ∙ owner-first b h log l s in
     let whole : log .fragments ++ list-fragments (ls ++ (l ∷ rest)) ≡ (before ++ l .fragments) ++ list-fragments rest
-        = ap (λ w. log .fragments ++ w) (flat-append (λ l. l .fragments) ls (l ∷ rest)) ∙ sym (append-assoc (log .fragments) (list-fragments ls) (l .fragments ++ list-fragments rest))
-          ∙ sym (append-assoc before (l .fragments) (list-fragments rest)) in
+    = ap (λ w. log .fragments ++ w) (flat-append (λ l. l .fragments) ls (l ∷ rest)) ∙ sym (append-assoc (log .fragments) (list-fragments ls) (l .fragments ++ list-fragments rest))
+    ∙ sym (append-assoc before (l .fragments) (list-fragments rest)) in
     let apart : Pairwise Apart (header-span ∷ (before ++ l .fragments))
-        = pairs-split Apart (header-span ∷ (before ++ l .fragments)) (list-fragments rest) (subst (λ w. Pairwise Apart (header-span ∷ w)) whole (k .apart)) .0 in
+    = pairs-split Apart (header-span ∷ (before ++ l .fragments)) (list-fragments rest) (subst (λ w. Pairwise Apart (header-span ∷ w)) whole (k .apart)) .0 in
     let new : taken (l .id) ls ≡ false
-        = not-taken (l .id) ls (cross-one (λ l m. l .id ≢ m .id) ls rest l (pairs-split (λ l m. l .id ≢ m .id) ls (l ∷ rest) (k .ids) .2)) in
+    = not-taken (l .id) ls (cross-one (λ l m. l .id ≢ m .id) ls rest l (pairs-split (λ l m. l .id ≢ m .id) ls (l ∷ rest) (k .ids) .2)) in
     let few : length ((before ++ l .fragments) ++ list-fragments rest) ≤ 2048 = subst (λ w. length w ≤ 2048) whole (k .few) in
     let x = length-append (before ++ l .fragments) (list-fragments rest) in
     let y = length-append before (l .fragments) in
@@ -168,12 +165,13 @@ next-read b h log S ls rest q l k s e =
 -- each list of S is named, once
 firsts-differ : (b : List ℕ) (h : Header) (log : Log) (T : List NodeList) → All (Stands b h log) T → Pairwise (λ l m. l .id ≢ m .id) T → Pairwise (λ x y. x ≢ y) (map first-of T)
 firsts-differ b h log [] s d = tt
-firsts-differ b h log (l ∷ T) (s, ss) (p, d) =
-    (all-from-in (λ y. first-of l ≢ y) (map first-of T) (λ y i e.
+firsts-differ b h log (l ∷ T) (s, ss) (p, d) = (
+  all-from-in (λ y. first-of l ≢ y) (map first-of T) (λ y i e.
       let (m, j, w) = in-unmap first-of T y i in
       let q : l .id ≡ m .id = sym (owner-first b h log l s) ∙ ap (λ f. owner b f) (e ∙ sym w) ∙ owner-first b h log m (all-in (λ m. Stands b h log m) T m ss j) in
       all-in (λ m. l .id ≢ m .id) T m p j q),
-    firsts-differ b h log T ss d)
+  firsts-differ b h log T ss d,
+)
 
 -- a reached list is named
 reached-named : (h : Header) (S T : List NodeList) (r : Span) → ((l : NodeList) → In l S → In l T) → Reached h S r → In r (spans (named-in h T))
@@ -183,7 +181,7 @@ reached-named h S T r k (by-header x) =
 reached-named h S T r k (by-node {l = l} x y z) =
     let (q, i, e) = in-unmap (λ (q : Named). q .1) (named-by l) r (in-from-has (spans (named-by l)) r z) in
     subst (λ w. In w (spans (named-in h T))) e (in-map (λ (q : Named). q .1) (named-in h T) q
-      (in-right (named-first h) (flat (map named-by T)) q (in-flat named-by T l q (k l (in-from-has S l x)) i)))
+    (in-right (named-first h) (flat (map named-by T)) q (in-flat named-by T l q (k l (in-from-has S l x)) i)))
 
 named-more : (h : Header) (ls T : List NodeList) (q : Named) → ((l : NodeList) → In l ls → In l T) → In q (named-in h ls) → In q (named-in h T)
 named-more h ls T q k i = in-cases (named-first h) (flat (map named-by ls)) q (In q (named-in h T)) i
@@ -215,16 +213,16 @@ not-twice b h log S ls rest q qs l g k o e i =
     let all : spans (named-in h T) ≡ (firsts ++ (q .1 ∷ spans qs)) ++ E = named-append h ls rest ∙ ap (λ w. w ++ E) o in
     let stand : All (Stands b h log) T = all-from-in (λ m. Stands b h log m) T (λ m j. all-in (λ m. Stands b h log m) S m (g .stands) (k .to m j)) in
     let hole : length (map first-of T) ≤ length ((firsts ++ spans qs) ++ E)
-        = pigeon (map first-of T) ((firsts ++ spans qs) ++ E) (firsts-differ b h log T stand (k .ids)) (λ y j.
-            let (m, j′, w) = in-unmap first-of T y j in
-            let c : In (first-of m) (spans (named-in h T)) = reached-named h S T (first-of m) (k .from) (all-in (λ l. Reached h S (first-of l)) S m (g .reached) (k .to m j′)) in
-            let c′ : In y ((firsts ++ (q .1 ∷ spans qs)) ++ E) = subst (λ w. In w ((firsts ++ (q .1 ∷ spans qs)) ++ E)) w (subst (λ w. In (first-of m) w) all c) in
-            in-cases (firsts ++ (q .1 ∷ spans qs)) E y (In y ((firsts ++ spans qs) ++ E)) c′
-              (λ u. in-left (firsts ++ spans qs) E y (elim (in-without firsts (spans qs) (q .1) y u) [
-                | inl z ↦ in-left firsts (spans qs) y (subst (λ w. In w firsts) (e ∙ z) (in-map first-of ls l i))
-                | inr z ↦ z
-              ]))
-              (λ u. in-right (firsts ++ spans qs) E y u)) in
+    = pigeon (map first-of T) ((firsts ++ spans qs) ++ E) (firsts-differ b h log T stand (k .ids)) (λ y j.
+    let (m, j′, w) = in-unmap first-of T y j in
+    let c : In (first-of m) (spans (named-in h T)) = reached-named h S T (first-of m) (k .from) (all-in (λ l. Reached h S (first-of l)) S m (g .reached) (k .to m j′)) in
+    let c′ : In y ((firsts ++ (q .1 ∷ spans qs)) ++ E) = subst (λ w. In w ((firsts ++ (q .1 ∷ spans qs)) ++ E)) w (subst (λ w. In (first-of m) w) all c) in
+    in-cases (firsts ++ (q .1 ∷ spans qs)) E y (In y ((firsts ++ spans qs) ++ E)) c′
+    (λ u. in-left (firsts ++ spans qs) E y (elim (in-without firsts (spans qs) (q .1) y u) [
+      | inl z ↦ in-left firsts (spans qs) y (subst (λ w. In w firsts) (e ∙ z) (in-map first-of ls l i))
+      | inr z ↦ z
+    ]))
+    (λ u. in-right (firsts ++ spans qs) E y u)) in
     let once : length (named-in h T) ≡ length T = k .once in
     let u : length (spans (named-in h T)) ≡ length (named-in h T) = length-map (named-in h T) (λ (q : Named). q .1) in
     let v : length (map first-of T) ≡ length T = length-map T first-of in
@@ -243,8 +241,8 @@ next-list b h log S ls rest q qs g k o =
     let (l, x, y) = in-unmap first-of S (p .1) (in-from-has (map first-of S) (p .1) (all-in (λ q. Has (map first-of S) (q .1)) (named-in h S) p (g .named) j′)) in
     let w : first-of l ≡ q .1 = y ∙ e in
     in-cases ls rest l ((l : NodeList) × In l rest × (first-of l ≡ q .1)) (k .from l x)
-      (λ z. absurd (not-twice b h log S ls rest q qs l g k o w z))
-      (λ z. (l, z, w))
+    (λ z. absurd (not-twice b h log S ls rest q qs l g k o w z))
+    (λ z. (l, z, w))
 
 -- the queue ----------------------------------------------------------------------------------------------------------------
 
@@ -271,12 +269,12 @@ reached-read b h log S ls rest r g k o (by-node {l = l} x y z) =
     let inl′ : In l S = in-from-has S l x in
     let inm : In m S = k .to m (in-left ls rest m i) in
     let id : m .id ≡ l .id = sym (owner-first b h log m (all-in (λ m. Stands b h log m) S m (g .stands) inm)) ∙ ap (λ f. owner b f) e
-        ∙ owner-first b h log l (all-in (λ m. Stands b h log m) S l (g .stands) inl′) in
+    ∙ owner-first b h log l (all-in (λ m. Stands b h log m) S l (g .stands) inl′) in
     let same : m ≡ l = same-by-key (λ (l : NodeList). l .id) (ls ++ rest) m l (k .ids) (in-left ls rest m i) (k .from l inl′) id in
     let i′ : In l ls = subst (λ w. In w ls) same i in
     let (q, j, w) = in-unmap (λ (q : Named). q .1) (named-by l) r (in-from-has (spans (named-by l)) r z) in
     let j′ : In r (spans (named-in h ls)) = subst (λ w. In w (spans (named-in h ls))) w (in-map (λ (q : Named). q .1) (named-in h ls) q
-        (in-right (named-first h) (flat (map named-by ls)) q (in-flat named-by ls l q i′ j))) in
+    (in-right (named-first h) (flat (map named-by ls)) q (in-flat named-by ls l q i′ j))) in
     subst (λ w. In r w) (o ∙ append-nil (map first-of ls)) j′
 
 all-read : (b : List ℕ) (h : Header) (log : Log) (S ls rest : List NodeList) → Right b h log S → Stock h log S (ls ++ rest) → Order h ls [] → rest ≡ []
@@ -286,7 +284,7 @@ all-read b h log S ls (l ∷ rest) g k o =
     let (m, j, e) = in-unmap first-of ls (first-of l) (reached-read b h log S ls (l ∷ rest) (first-of l) g k o (all-in (λ l. Reached h S (first-of l)) S l (g .reached) i)) in
     let inm : In m S = k .to m (in-left ls (l ∷ rest) m j) in
     let id : m .id ≡ l .id = sym (owner-first b h log m (all-in (λ m. Stands b h log m) S m (g .stands) inm)) ∙ ap (λ f. owner b f) e
-        ∙ owner-first b h log l (all-in (λ m. Stands b h log m) S l (g .stands) i) in
+    ∙ owner-first b h log l (all-in (λ m. Stands b h log m) S l (g .stands) i) in
     let d : m .id ≢ l .id = all-in (λ m. m .id ≢ l .id) ls m (cross-one (λ l m. l .id ≢ m .id) ls rest l (pairs-split (λ l m. l .id ≢ m .id) ls (l ∷ rest) (k .ids) .2)) j in
     absurd (d id)
 
@@ -305,7 +303,7 @@ lists-next : (n : ℕ) (b : List ℕ) (h : Header) (log : Log) (S ls : List Node
 lists-next n b h log S ls q qs l e (T, r, k, o) =
     (T, lists-step n b h log q qs ls ∙ ap (λ a. then a (λ l. lists-from n b h log (qs ++ named-by l) (ls ++ (l ∷ [])))) e ∙ r, k, o)
 
--- QUEUE: from any point on
+-- the lists still to be read, from any point on
 pub lists-read : (n : ℕ) (b : List ℕ) (h : Header) (log : Log) (S ls rest : List NodeList) (qs : List Named) → Right b h log S → Stock h log S (ls ++ rest) → Order h ls qs
     → length rest ≤ n → Lists-read n b h log S qs ls
 lists-read n b h log S ls rest [] g k o l = lists-over n b h log S ls rest g k o
@@ -321,7 +319,7 @@ lists-read (suc n) b h log S ls rest (q ∷ qs) g k o n≤ =
     let y = length-append as′ (l ∷ bs) in
     let z = length-append as′ bs in
     lists-next n b h log S ls q qs l (next-read b h log S ls (as′ ++ bs) q l k′ s e)
-      (lists-read n b h log S (ls ++ (l ∷ [])) (as′ ++ bs) (qs ++ named-by l) g k″ (order-more h ls q qs l o e) (omega arith))
+    (lists-read n b h log S (ls ++ (l ∷ [])) (as′ ++ bs) (qs ++ named-by l) g k″ (order-more h ls q qs l o e) (omega arith))
 
 -- lists that already stand in that order -----------------------------------------------------------------------------------
 
@@ -329,8 +327,8 @@ ordered-head : (h : Header) (ls rest : List NodeList) (q : Named) (qs : List Nam
     → map first-of rest ≡ q .1 ∷ (spans qs ++ spans (flat (map named-by rest)))
 ordered-head h ls rest q qs o i =
     append-cancel-left (map first-of ls) (map first-of rest) (q .1 ∷ (spans qs ++ spans (flat (map named-by rest))))
-      (sym (map-append first-of ls rest) ∙ i ∙ named-append h ls rest ∙ ap (λ w. w ++ spans (flat (map named-by rest))) o
-      ∙ append-assoc (map first-of ls) (q .1 ∷ spans qs) (spans (flat (map named-by rest))))
+    (sym (map-append first-of ls rest) ∙ i ∙ named-append h ls rest ∙ ap (λ w. w ++ spans (flat (map named-by rest))) o
+    ∙ append-assoc (map first-of ls) (q .1 ∷ spans qs) (spans (flat (map named-by rest))))
 
 pub lists-read-in-order : (n : ℕ) (b : List ℕ) (h : Header) (log : Log) (S ls rest : List NodeList) (qs : List Named) → Right b h log S → Stock h log S (ls ++ rest) → Order h ls qs
     → In-order h (ls ++ rest) → length rest ≤ n → lists-from n b h log qs ls ≡ done (ls ++ rest)
@@ -348,5 +346,5 @@ lists-read-in-order (suc n) b h log S ls (l ∷ rest) (q ∷ qs) g k o i n≤ =
     lists-step n b h log q qs ls
     ∙ ap (λ x. then x (λ l. lists-from n b h log (qs ++ named-by l) (ls ++ (l ∷ [])))) (next-read b h log S ls rest q l k s e)
     ∙ lists-read-in-order n b h log S (ls ++ (l ∷ [])) rest (qs ++ named-by l) g (subst (λ w. Stock h log S w) (sym a) k) (order-more h ls q qs l o e)
-        (subst (λ w. In-order h w) (sym a) i) (omega arith)
+    (subst (λ w. In-order h w) (sym a) i) (omega arith)
     ∙ ap done a

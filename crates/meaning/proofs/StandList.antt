@@ -21,11 +21,11 @@ use Rattle.model.specs.Headers.{header-span}
 use Rattle.model.specs.Nodes.{Node, node-at, hands-over, bad-node}
 use Rattle.model.specs.ListFragments.{owner, unmarked, sequence, nodes-from, nodes-to}
 use Rattle.model.specs.Section.{Log, NodeList, last-of, count-in, first-of}
-use Rattle.model.specs.OpenedLists.{NodePart, counted, uncounted, nodes-at, taken, list-from}
+use Rattle.model.specs.OpenedLists.{NodePart, counted, uncounted, nodes-at, taken, list-from, list-goes, list-checks}
 use Rattle.model.specs.Means.{Apart, Pairwise, Inside, Nodes, Spread, within, across, Marked, Numbered, Stands}
 use Rattle.meaning.proofs.Meant.{passes, nodes-stand}
 use Rattle.meaning.proofs.Base.{unless-done, then-done, inside, overlaps-apart, pairs-push}
-use Rattle.meaning.proofs.ReadList.{list-goes, list-checks, list-step, list-is}
+use Rattle.meaning.proofs.ReadList.{list-step, list-is}
 
 -- nodes ------------------------------------------------------------------------------------------------------------
 
@@ -141,9 +141,9 @@ list-none b end count ls before id field f fs ns g e = grind (arith, tells)
 
 list-either : (n : ℕ) (b : List ℕ) (end count : ℕ) (ls : List NodeList) (before : List Span) (id field : ℕ) (f : Span) (fs : List Span) (ns : List Node) (g : NodeList) (a : NodePart)
     → Inside 36 end f → Marked b id (length fs) f → 16 ≤ id → Pairwise Apart (header-span ∷ ((before ++ fs) ++ (f ∷ []))) → length ns < count
-    → nodes-at (count - length ns) b id (nodes-to f) (nodes-from f) ns ≡ done a → list-goes n b end count ls before id f fs a ≡ done g
+    → nodes-at (count - length ns) b id (nodes-to f) (nodes-from f) ns ≡ done a → list-goes (list-from n b end count ls before id) b id f fs a ≡ done g
     → ((ms : List Node) → length ms < count → list-from n b end count ls before id (nodes-to f) (span-at b (nodes-to f)) (fs ++ (f ∷ [])) ms ≡ done g
-        → List-stands n b end count before id (span-at b (nodes-to f)) (fs ++ (f ∷ [])) ms g)
+    → List-stands n b end count before id (span-at b (nodes-to f)) (fs ++ (f ∷ [])) ms g)
     → List-stands (suc n) b end count before id f fs ns g
 list-either n b end count ls before id field f fs ns g (counted ms q) i m r p d e k ih =
     let w : list-is id (fs ++ (f ∷ [])) ms q ≡ g = cc in
@@ -158,12 +158,12 @@ pub list-stands : (n : ℕ) (b : List ℕ) (end count : ℕ) (ls : List NodeList
 list-stands zero b end count ls before id field f fs ns g u p e = absurd (list-none b end count ls before id field f fs ns g e)
 list-stands (suc n) b end count ls before id field f fs ns g u p e =
     let (c, d) = unless-done (list-checks b end count ls before id field f fs) _ g (sym (list-step n b end count ls before id field f fs ns) ∙ e) in
-    let (a, x, y) = then-done (nodes-at (count - length ns) b id (nodes-to f) (nodes-from f) ns) (list-goes n b end count ls before id f fs) g d in
+    let (a, x, y) = then-done (nodes-at (count - length ns) b id (nodes-to f) (nodes-from f) ns) (list-goes (list-from n b end count ls before id) b id f fs) g d in
     let (m, r) = passes-marked b id (length fs) f (c .1 .1 .0) in
     let p′ : Pairwise Apart (header-span ∷ ((before ++ fs) ++ (f ∷ []))) = pairs-push (header-span ∷ (before ++ fs)) f p (overlaps-apart f (before ++ fs) (c .1 .0)) in
     list-either n b end count ls before id field f fs ns g a (inside 36 end f (c .0)) m r p′ (due count fs ns u (c .1 .1 .1 .1 .0)) x y
-      (λ ms v k. list-stands n b end count ls before id (nodes-to f) (span-at b (nodes-to f)) (fs ++ (f ∷ [])) ms g (inl v)
-        (subst (λ z. Pairwise Apart (header-span ∷ z)) (append-assoc before fs (f ∷ [])) p′) k)
+    (λ ms v k. list-stands n b end count ls before id (nodes-to f) (span-at b (nodes-to f)) (fs ++ (f ∷ [])) ms g (inl v)
+    (subst (λ z. Pairwise Apart (header-span ∷ z)) (append-assoc before fs (f ∷ [])) p′) k)
 
 -- the ID is new
 pub list-new : (n : ℕ) (b : List ℕ) (end count : ℕ) (ls : List NodeList) (before : List Span) (id field : ℕ) (f : Span) (g : NodeList)
@@ -173,7 +173,7 @@ list-new (suc n) b end count ls before id field f g e =
     let (c, d) = unless-done (list-checks b end count ls before id field f []) _ g (sym (list-step n b end count ls before id field f [] []) ∙ e) in
     c .1 .1 .1 .0
 
--- LIST: one that was read stands
+-- a list that was read stands
 pub record List-fits (b : List ℕ) (h : Header) (log : Log) (before : List Span) (f : Span) (n : ℕ) (g : NodeList) : Type 0 where
   pub stands : Stands b h log g
   pub first : first-of g ≡ f
@@ -197,8 +197,9 @@ pub list-fits : (n : ℕ) (b : List ℕ) (h : Header) (log : Log) (ls : List Nod
 list-fits n b h log ls before id field f g p e =
     let nil = append-nil before in
     let s = list-stands n b (h .end) (count-in (log .transactions) id) ls before id field f [] [] g (inr (refl, refl)) (subst (λ z. Pairwise Apart (header-span ∷ z)) (sym nil) p) e in
-    let count′ = s .count′ in
-    (subst (λ (g : NodeList). List-fits b h log before f n g) (sym (s .is))
-      (list-is-fit n b h log before id f (s .more) (s .nodes) (g .free) (s .spread) (s .inside′) (s .marks) (s .real)
-        (subst (λ z. Pairwise Apart (header-span ∷ (z ++ (f ∷ s .more)))) nil (s .apart)) (omega arith) (s .ends) (s .few)),
-     ap (λ (g : NodeList). g .id) (s .is))
+    let count′ = s .count′ in (
+      subst (λ (g : NodeList). List-fits b h log before f n g) (sym (s .is))
+          (list-is-fit n b h log before id f (s .more) (s .nodes) (g .free) (s .spread) (s .inside′) (s .marks) (s .real)
+          (subst (λ z. Pairwise Apart (header-span ∷ (z ++ (f ∷ s .more)))) nil (s .apart)) (omega arith) (s .ends) (s .few)),
+      ap (λ (g : NodeList). g .id) (s .is),
+    )

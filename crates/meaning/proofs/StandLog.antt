@@ -11,18 +11,19 @@ use Rattle.std.specs.shelf.Lists.{All}
 use Rattle.std.proofs.shelf.Lists.{append-assoc, append-nil}
 use Rattle.std.proofs.shelf.Ways.{tells}
 use Rattle.std.proofs.shelf.Tests.{cases-bool}
+use Rattle.std.proofs.shelf.Elements.{all-append}
 use Rattle.model.specs.declared.types.Span.{Span}
 use Rattle.model.specs.declared.types.Entry.{Entry}
 use Rattle.model.specs.declared.types.Header.{Header}
-use Rattle.model.specs.Faults.{fault, done}
+use Rattle.model.specs.Faults.{done}
 use Rattle.model.specs.References.{span, span-at}
 use Rattle.model.specs.Headers.{header-span}
 use Rattle.model.specs.LogFragments.{entry-at, sentinel, entries-in, entry-place, log-next}
 use Rattle.model.specs.Section.{Log, flat, last-of, latest}
-use Rattle.model.specs.OpenedLog.{outside, overlaps, Reading, LogPart, finished, unfinished, log-entries, log-from}
+use Rattle.model.specs.OpenedLog.{Reading, LogPart, finished, unfinished, log-entries, log-from, reading, log-goes, log-checks}
 use Rattle.model.specs.Means.{Apart, Pairwise, Inside, Chain, entries-of, log-row, closed, Counts-lists, Rising, Logs}
-use Rattle.meaning.proofs.Base.{unless-done, then-done, all-join, inside, overlaps-apart, pairs-push}
-use Rattle.meaning.proofs.ReadLog.{reading, log-goes, log-step, log-next-of, log-is, flat-push}
+use Rattle.meaning.proofs.Base.{unless-done, then-done, inside, overlaps-apart, pairs-push}
+use Rattle.meaning.proofs.ReadLog.{log-step, log-next-of, log-is, flat-push}
 
 -- entries ----------------------------------------------------------------------------------------------------------
 
@@ -59,13 +60,13 @@ fair-count : (ts : List (List Entry)) (pending : List Entry) (e : Entry) → Fai
     → Fair ts (pending ++ (e ∷ []))
 fair-count ts pending e f s l = record {
   lists = f .lists;
-  pending-lists = all-join (λ (e : Entry). e .source ≢ 1) pending (e ∷ []) (f .pending-lists) (s, tt);
+  pending-lists = all-append (λ (e : Entry). e .source ≢ 1) pending (e ∷ []) (f .pending-lists) (s, tt);
   rising = subst (λ w. Rising [] w) (append-assoc (flat ts) pending (e ∷ [])) (rising-push [] (flat ts ++ pending) e (f .rising) l);
 }
 
 fair-sentinel : (ts : List (List Entry)) (pending : List Entry) → Fair ts pending → Fair (ts ++ (pending ∷ [])) []
 fair-sentinel ts pending f = record {
-  lists = all-join Counts-lists ts (pending ∷ []) (f .lists) (f .pending-lists, tt);
+  lists = all-append Counts-lists ts (pending ∷ []) (f .lists) (f .pending-lists, tt);
   pending-lists = tt;
   rising = subst (λ w. Rising [] w) (sym (flat-push ts pending) ∙ sym (append-nil (flat (ts ++ (pending ∷ []))))) (f .rising);
 }
@@ -94,19 +95,20 @@ entered-none : (b : List ℕ) (count : ℕ) (f : Span) (i : ℕ) (ts : List (Lis
     → log-entries zero b count f i (reading ts pending) ≡ done a → Fair ts pending → Entered zero b count f i (row ts pending) a
 unfolding log-entries
 entered-none b count f i ts pending (unfinished r) e fair =
-    let q : reading ts pending ≡ r = grind arith in
-    (subst (λ (r : Reading). Fair (r .transactions) (r .pending)) q fair,
-      ap (λ (r : Reading). row (r .transactions) (r .pending)) (sym q) ∙ sym (append-nil (row ts pending)))
+    let q : reading ts pending ≡ r = grind arith in (
+      subst (λ (r : Reading). Fair (r .transactions) (r .pending)) q fair,
+      ap (λ (r : Reading). row (r .transactions) (r .pending)) (sym q) ∙ sym (append-nil (row ts pending)),
+    )
 entered-none b count f i ts pending (finished us u) e fair = absurd (grind arith)
 
 -- one entry: a sentinel that ends the log, or one that does not, or a count
 abbrev One : ℕ → List ℕ → ℕ → Span → ℕ → List (List Entry) → List Entry → LogPart → Type 0
 One n b count f i ts pending a =
     ((entry-at b (entry-place f i) ≡ sentinel pending)
-      × (((length (ts ++ (pending ∷ [])) ≡ count) × (done (finished (ts ++ (pending ∷ [])) (i + 1)) ≡ done a))
-        ⊎ (log-entries n b count f (i + 1) (reading (ts ++ (pending ∷ [])) []) ≡ done a)))
+    × (((length (ts ++ (pending ∷ [])) ≡ count) × (done (finished (ts ++ (pending ∷ [])) (i + 1)) ≡ done a))
+    ⊎ (log-entries n b count f (i + 1) (reading (ts ++ (pending ∷ [])) []) ≡ done a)))
     ⊎ ((entry-at b (entry-place f i) .source ≢ 1) × (latest (entry-at b (entry-place f i) .source) 0 (flat ts ++ pending) < entry-at b (entry-place f i) .number)
-      × (log-entries n b count f (i + 1) (reading ts (pending ++ (entry-at b (entry-place f i) ∷ []))) ≡ done a))
+    × (log-entries n b count f (i + 1) (reading ts (pending ++ (entry-at b (entry-place f i) ∷ []))) ≡ done a))
 
 one-entry : (n : ℕ) (b : List ℕ) (count : ℕ) (f : Span) (i : ℕ) (ts : List (List Entry)) (pending : List Entry) (a : LogPart)
     → log-entries (suc n) b count f i (reading ts pending) ≡ done a → One n b count f i ts pending a
@@ -195,9 +197,9 @@ unfolding log-from
 log-none b h fs field f r g e = grind (arith, tells)
 
 log-either : (n : ℕ) (b : List ℕ) (h : Header) (fs : List Span) (field : ℕ) (f : Span) (before : List Entry) (g : Log) (a : LogPart)
-    → Inside 12 (h .end) f → Pairwise Apart (header-span ∷ (fs ++ (f ∷ []))) → Entered (entries-in (f .size)) b (h .count) f 0 before a → log-goes n b h fs f a ≡ done g
+    → Inside 12 (h .end) f → Pairwise Apart (header-span ∷ (fs ++ (f ∷ []))) → Entered (entries-in (f .size)) b (h .count) f 0 before a → log-goes (log-from n b h) b fs f a ≡ done g
     → ((r : Reading) → Fair (r .transactions) (r .pending) → log-from n b h (fs ++ (f ∷ [])) (log-next f) (span-at b (log-next f)) r ≡ done g
-        → Log-stands n b h (fs ++ (f ∷ [])) (span-at b (log-next f)) (row (r .transactions) (r .pending)) g)
+    → Log-stands n b h (fs ++ (f ∷ [])) (span-at b (log-next f)) (row (r .transactions) (r .pending)) g)
     → Log-stands (suc n) b h fs f before g
 log-either n b h fs field f before g (finished ts u) i p e k ih =
     let q : log-is (fs ++ (f ∷ [])) ts u ≡ g = cc in
@@ -209,14 +211,14 @@ pub log-stands : (n : ℕ) (b : List ℕ) (h : Header) (fs : List Span) (field :
     → Pairwise Apart (header-span ∷ fs) → log-from n b h fs field f r ≡ done g → Log-stands n b h fs f (row (r .transactions) (r .pending)) g
 log-stands zero b h fs field f r g fair p e = absurd (log-none b h fs field f r g e)
 log-stands (suc n) b h fs field f r g fair p e =
-    let (c, d) = unless-done ((outside 12 (h .end) f, fault 5 2 field 0) ∷ (overlaps f fs, fault 11 2 field 0) ∷ []) _ g (sym (log-step n b h fs field f r) ∙ e) in
-    let (a, x, y) = then-done (log-entries (entries-in (f .size)) b (h .count) f 0 r) (log-goes n b h fs f) g d in
+    let (c, d) = unless-done (log-checks (h .end) fs field f) _ g (sym (log-step n b h fs field f r) ∙ e) in
+    let (a, x, y) = then-done (log-entries (entries-in (f .size)) b (h .count) f 0 r) (log-goes (log-from n b h) b fs f) g d in
     let p′ : Pairwise Apart (header-span ∷ (fs ++ (f ∷ []))) = pairs-push (header-span ∷ fs) f p (overlaps-apart f fs (c .1 .0)) in
     log-either n b h fs field f (row (r .transactions) (r .pending)) g a (inside 12 (h .end) f (c .0)) p′
-      (entries-stand (entries-in (f .size)) b (h .count) f 0 (r .transactions) (r .pending) a x fair) y
-      (λ r′ fair′ k. log-stands n b h (fs ++ (f ∷ [])) (log-next f) (span-at b (log-next f)) r′ g fair′ p′ k)
+    (entries-stand (entries-in (f .size)) b (h .count) f 0 (r .transactions) (r .pending) a x fair) y
+    (λ r′ fair′ k. log-stands n b h (fs ++ (f ∷ [])) (log-next f) (span-at b (log-next f)) r′ g fair′ p′ k)
 
--- LOG: one that was read is right
+-- a log that was read is right
 pub logs-stand : (b : List ℕ) (h : Header) (g : Log) → log-from 2048 b h [] 0xA0 (h .log) (reading [] []) ≡ done g → Logs b h g
 logs-stand b h g e =
     let fair : Fair [] [] = record { lists = tt; pending-lists = tt; rising = tt } in

@@ -12,16 +12,17 @@ use Rattle.std.specs.shelf.Lists.{All, Has}
 use Rattle.std.proofs.shelf.Lists.{append-assoc, append-nil, length-append}
 use Rattle.std.proofs.shelf.Ways.{tells}
 use Rattle.std.proofs.shelf.Tests.{or-parts}
+use Rattle.std.proofs.shelf.Elements.{all-append, all-weaker}
 use Rattle.model.specs.declared.types.Header.{Header}
 use Rattle.model.specs.Faults.{done}
 use Rattle.model.specs.Headers.{header-span}
 use Rattle.model.specs.ListFragments.{owner}
 use Rattle.model.specs.Section.{Log, NodeList, count-in, list-fragments, first-of}
-use Rattle.model.specs.OpenedLists.{taken, Named, named-by, lists-from}
+use Rattle.model.specs.OpenedLists.{taken, Named, named-by, lists-from, named-list}
 use Rattle.model.specs.Means.{Apart, Pairwise, Stands, Reached, by-node}
-use Rattle.meaning.proofs.Base.{then-done, pairs-join, all-join, all-map}
+use Rattle.meaning.proofs.Base.{then-done, pairs-join}
 use Rattle.meaning.proofs.Members.{has-from-in, in-map, in-at, all-from-in, flat-append}
-use Rattle.meaning.proofs.ReadQueue.{spans, Order, order-more, named-list, lists-step, lists-end}
+use Rattle.meaning.proofs.ReadQueue.{spans, Order, order-more, lists-step, lists-end}
 use Rattle.meaning.proofs.StandList.{list-fits, list-new}
 
 taken-not : (id : ℕ) (ls : List NodeList) → taken id ls ≡ false → All (λ k. k .id ≢ id) ls
@@ -33,7 +34,7 @@ taken-not id (k ∷ ls) e =
 
 ids-push : (ls : List NodeList) (l : NodeList) → Pairwise (λ l m. l .id ≢ m .id) ls → taken (l .id) ls ≡ false → Pairwise (λ l m. l .id ≢ m .id) (ls ++ (l ∷ []))
 ids-push ls l p t = pairs-join (λ (l m : NodeList). l .id ≢ m .id) ls (l ∷ []) p (tt, tt)
-    (all-map (λ (k : NodeList). k .id ≢ l .id) (λ (k : NodeList). All (λ (m : NodeList). k .id ≢ m .id) (l ∷ [])) ls (λ k d. (d, tt)) (taken-not (l .id) ls t))
+    (all-weaker (λ (k : NodeList). k .id ≢ l .id) (λ (k : NodeList). All (λ (m : NodeList). k .id ≢ m .id) (l ∷ [])) (λ k d. (d, tt)) ls (taken-not (l .id) ls t))
 
 fragments-push : (log : Log) (ls : List NodeList) (l : NodeList)
     → log .fragments ++ list-fragments (ls ++ (l ∷ [])) ≡ (log .fragments ++ list-fragments ls) ++ l .fragments
@@ -60,14 +61,16 @@ so-far-more b h log ls q qs l s e =
     let x = length-append before (l .fragments) in
     let y : length (log .fragments ++ list-fragments (ls ++ (l ∷ []))) ≡ length (before ++ l .fragments) = ap length w in
     let few = s .few in
-    let room = fit .few in
-    (record {
-      apart = subst (λ z. Pairwise Apart (header-span ∷ z)) (sym w) (fit .apart);
-      ids = ids-push ls l (s .ids) (subst (λ i. taken i ls ≡ false) (sym id) new);
-      order = order-more h ls q qs l (s .order) (fit .first);
-      few = omega arith;
-      stands = all-join (Stands b h log) ls (l ∷ []) (s .stands) (fit .stands, tt);
-    }, fit .first)
+    let room = fit .few in (
+      record {
+        apart = subst (λ z. Pairwise Apart (header-span ∷ z)) (sym w) (fit .apart);
+        ids = ids-push ls l (s .ids) (subst (λ i. taken i ls ≡ false) (sym id) new);
+        order = order-more h ls q qs l (s .order) (fit .first);
+        few = omega arith;
+        stands = all-append (Stands b h log) ls (l ∷ []) (s .stands) (fit .stands, tt);
+      },
+      fit .first,
+    )
 
 -- what reading lists says of them
 pub record Lists-stand (n : ℕ) (b : List ℕ) (h : Header) (log : Log) (qs : List Named) (ls g : List NodeList) : Type 0 where
@@ -98,19 +101,21 @@ lists-longer n b h log q qs ls g l e s =
       far = s .far;
       few-lists = omega arith;
       reached = λ r.
-        let here : Reached h g (first-of l) = subst (λ z. Reached h g z) (sym e) (r .0) in
-        (here, s .reached (all-join (λ (q : Named). Reached h g (q .1)) qs (named-by l) (r .1)
-          (all-from-in (λ (q : Named). Reached h g (q .1)) (named-by l) (λ p i.
-            by-node {l = l} has here (has-from-in (spans (named-by l)) (p .1) (in-map (λ (q : Named). q .1) (named-by l) p i))))));
+          let here : Reached h g (first-of l) = subst (λ z. Reached h g z) (sym e) (r .0) in (
+            here,
+            s .reached (all-append (λ (q : Named). Reached h g (q .1)) qs (named-by l) (r .1)
+                (all-from-in (λ (q : Named). Reached h g (q .1)) (named-by l) (λ p i.
+                by-node {l = l} has here (has-from-in (spans (named-by l)) (p .1) (in-map (λ (q : Named). q .1) (named-by l) p i))))),
+          );
     }
 
--- QUEUE: lists that were read are right
+-- lists that were read are right
 pub lists-stand : (n : ℕ) (b : List ℕ) (h : Header) (log : Log) (qs : List Named) (ls g : List NodeList) → So-far b h log ls qs
     → lists-from n b h log qs ls ≡ done g → Lists-stand n b h log qs ls g
 lists-stand n b h log [] ls g s e = lists-over n b h log ls g s e
 lists-stand zero b h log (q ∷ qs) ls g s e = absurd (lists-none b h log q qs ls g e)
 lists-stand (suc n) b h log (q ∷ qs) ls g s e =
     let (l, y, z) = then-done (named-list b h log ls q (owner b (q .1))) (λ l. lists-from n b h log (qs ++ named-by l) (ls ++ (l ∷ []))) g
-        (sym (lists-step n b h log q qs ls) ∙ e) in
+    (sym (lists-step n b h log q qs ls) ∙ e) in
     let (s′, w) = so-far-more b h log ls q qs l s y in
     lists-longer n b h log q qs ls g l w (lists-stand n b h log (qs ++ named-by l) (ls ++ (l ∷ [])) g s′ z)
