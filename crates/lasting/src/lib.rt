@@ -1,0 +1,1 @@
+//! Finished states last.
