@@ -1,3 +1,4 @@
 pub mod Chains
 pub mod Places
 pub mod SameFile
+pub mod SameLooks
