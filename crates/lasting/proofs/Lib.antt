@@ -2,3 +2,4 @@ pub mod Chains
 pub mod Places
 pub mod SameFile
 pub mod SameLooks
+pub mod FreeApart
