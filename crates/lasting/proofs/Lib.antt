@@ -3,3 +3,5 @@ pub mod Places
 pub mod SameFile
 pub mod SameLooks
 pub mod FreeApart
+pub mod Rows
+pub mod Sizes
