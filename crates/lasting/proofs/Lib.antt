@@ -5,3 +5,5 @@ pub mod SameLooks
 pub mod FreeApart
 pub mod Rows
 pub mod Sizes
+pub mod Steps
+pub mod Adds
