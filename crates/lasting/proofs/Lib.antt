@@ -7,3 +7,4 @@ pub mod Rows
 pub mod Sizes
 pub mod Steps
 pub mod Adds
+pub mod Drafts

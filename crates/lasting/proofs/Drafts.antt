@@ -1,0 +1,141 @@
+-- Every write of a draft over an accepted file, and every write of its commit but the header's, goes to the file's free zone.
+-- Assumes nothing.
+use Prim.Native.Nat.{ℕ, _+_, _-_, _*_, _<_, _≤_}
+use mathlib.Core.Path.{_≡_, refl, sym, ap, _∙_}
+use mathlib.Core.Bool.{true, cond}
+use mathlib.Core.List.{List, [], _∷_, _++_, map}
+use native.Mathlib.Omega.{arith}
+use lib.Dec.{ltb}
+use lib.ListN.{length, take, drop}
+use Rattle.std.specs.shelf.Lists.{All}
+use Rattle.std.proofs.shelf.Lists.{append-nil, append-assoc, length-take, length-drop}
+use Rattle.std.proofs.shelf.Tests.{lt-ltb}
+use Rattle.std.proofs.shelf.Ways.{tells}
+use Rattle.std.proofs.shelf.Elements.{all-map, all-append}
+use Rattle.model.specs.declared.types.Span.{Span}
+use Rattle.model.specs.declared.types.Entry.{Entry}
+use Rattle.model.specs.Bytes.{put, behind}
+use Rattle.model.specs.Faults.{done}
+use Rattle.model.specs.References.{span, span-bytes}
+use Rattle.model.specs.LogFragments.{entry-bytes, entries-in, entry-place, log-next, new-log-fragment}
+use Rattle.model.specs.Section.{NodeList, Section}
+use Rattle.model.specs.Opened.{opened}
+use Rattle.model.specs.Layouts.{Add, Layout, tail-of, blank}
+use Rattle.model.specs.Saving.{at-end, planned, laid, layout}
+use Rattle.model.specs.Committing.{if-any, new-entries, logged}
+use Rattle.model.specs.Calls.{add-checks}
+use Rattle.model.specs.Journal.{Fit-add}
+use Rattle.model.specs.Laws.{last-fragment, in-log, Writes-free, Done-adds, add-writes, Drafts-write-free}
+use Rattle.meaning.proofs.Base.{Clean}
+use Rattle.meaning.proofs.Members.{In, all-from-in}
+use Rattle.lasting.proofs.Places.{meant, List-end, Log-end, list-end, log-end}
+use Rattle.lasting.proofs.Sizes.{length-span-bytes, length-entry-bytes, piece-ends, span-bytes-bytes, entry-bytes-bytes, log-fragment-bytes}
+use Rattle.lasting.proofs.Steps.{Steps, steps-append, steps-none, steps-at-end, steps-within}
+use Rattle.lasting.proofs.Adds.{Grown, old, Tail-held, Draft-held, Kept, kept-planned}
+
+-- ---- one add more at the end of a draft
+
+pub laid-push : (y : Layout) (adds : List Add) (a : Add) → laid y (adds ++ (a ∷ [])) ≡ planned (laid y adds) a .layout
+unfolding laid
+laid-push y [] a = refl
+laid-push y (x ∷ xs) a = laid-push (planned y x .layout) xs a
+
+pub writes-push : (y : Layout) (adds : List Add) (a : Add) → add-writes y (adds ++ (a ∷ [])) ≡ add-writes y adds ++ planned (laid y adds) a .writes
+unfolding laid
+writes-push y [] a = append-nil (planned y a .writes)
+writes-push y (x ∷ xs) a =
+    ap (λ ws. planned y x .writes ++ ws) (writes-push (planned y x .layout) xs a)
+    ∙ sym (append-assoc (planned y x .writes) (add-writes (planned y x .layout) xs) (planned (laid (planned y x .layout) xs) a .writes))
+
+pub adds-push : (ceiling : ℕ) (y : Layout) (adds : List Add) (a : Add) → Done-adds ceiling y adds → Fit-add a → Clean (add-checks ceiling (laid y adds) a)
+    → Done-adds ceiling y (adds ++ (a ∷ []))
+unfolding laid
+adds-push ceiling y [] a h fit p = (fit, p, tt)
+adds-push ceiling y (x ∷ xs) a (f, c, h) fit p = (f, c, adds-push ceiling (planned y x .layout) xs a h fit p)
+
+-- ---- all adds of a draft
+
+held-laid : (s : Section) (y : Layout) (ceiling : ℕ) (adds : List Add) → Draft-held s y → Done-adds ceiling y adds → Draft-held s (laid y adds)
+unfolding laid
+held-laid s y ceiling [] d p = d
+held-laid s y ceiling (a ∷ more) d (f, c, p) = held-laid s (planned y a .layout) ceiling more (kept-planned s y ceiling a d f c .held) p
+
+steps-laid : (s : Section) (y : Layout) (ceiling : ℕ) (adds : List Add) → Draft-held s y → Done-adds ceiling y adds → Steps s (y .end) (laid y adds .end) (add-writes y adds)
+unfolding laid
+steps-laid s y ceiling [] d p = steps-none s (y .end)
+steps-laid s y ceiling (a ∷ more) d (f, c, p) =
+    let k = kept-planned s y ceiling a d f c in
+    let z = planned y a .layout in
+    steps-append s (y .end) (z .end) (laid z more .end) (planned y a .writes) (add-writes z more) (k .steps) (steps-laid s z ceiling more (k .held) p)
+
+-- ---- the log's writes
+
+abbrev last-log : Section → Span
+last-log s = last-fragment (s .log .fragments)
+
+steps-rest : (s : Section) (y : Layout) (rest : List Entry) (r : Span) → Log-end s → s .header .end ≤ y .end
+    → Steps s (y .end) (cond (ltb 0 (length rest)) (behind (at-end y (new-log-fragment rest))) (y .end))
+        (if-any rest (at-end y (new-log-fragment rest) ∷ put (log-next (last-log s)) (span-bytes r) ∷ []))
+steps-rest s y [] r g h = steps-none s (y .end)
+steps-rest s y (e ∷ es) r g h =
+    let size = g .size in
+    let to = g .to in
+    let used-to = g .used-to in
+    let z = length-span-bytes r in
+    let new = new-log-fragment (e ∷ es) in
+    let p = piece-ends y new in
+    let k : ltb 0 (length (e ∷ es)) ≡ true = lt-ltb 0 (length (e ∷ es)) (omega arith) in
+    rw k (steps-append s (y .end) (behind (at-end y new)) _ (at-end y new ∷ []) (put (log-next (last-log s)) (span-bytes r) ∷ [])
+      (steps-at-end s y new h (log-fragment-bytes (e ∷ es)))
+      (steps-within s (behind (at-end y new)) (log-next (last-log s)) (span-bytes r) (omega arith) (span-bytes-bytes r) (λ i u v. in-log (omega arith) (omega arith))))
+
+steps-fit : (s : Section) (a : ℕ) (fit : List Entry) → Log-end s → s .header .end ≤ a → length fit ≤ entries-in (last-log s .size) - s .log .used
+    → Steps s a a (if-any fit (put (entry-place (last-log s) (s .log .used)) (entry-bytes fit) ∷ []))
+steps-fit s a [] g h k = steps-none s a
+steps-fit s a (e ∷ es) g h k =
+    let size = g .size in
+    let to = g .to in
+    let used-to = g .used-to in
+    let z = length-entry-bytes (e ∷ es) in
+    steps-within s a (entry-place (last-log s) (s .log .used)) (entry-bytes (e ∷ es)) (omega arith) (entry-bytes-bytes (e ∷ es)) (λ i u v. in-log u (omega arith))
+
+steps-logged : (s : Section) (y : Layout) → Log-end s → s .header .end ≤ y .end → Steps s (y .end) (logged s y .end) (logged s y .writes)
+steps-logged s y g d =
+    let places = entries-in (last-log s .size) - s .log .used in
+    let es = new-entries y in
+    let e : ltb 0 (length (drop places es)) ≡ ltb places (length es) = simp length-drop (grind (arith, tells)) in
+    let one = rw e at (steps-rest s y (drop places es) (span (y .end) 1024) g d) in
+    let up = one .rises in
+    steps-append s (y .end) (logged s y .end) (logged s y .end) _ _ one
+      (steps-fit s (logged s y .end) (take places es) g (omega arith) (simp length-take (omega arith)))
+
+-- ---- over an accepted file
+
+module _ (b : List ℕ) (s : Section) (opens : opened b ≡ done s) where
+  held-blank : Draft-held s (blank s)
+  held-blank = record {
+    end = omega arith;
+    tails = all-map (Tail-held s (s .header .end)) tail-of (s .lists) (all-from-in (λ l. Tail-held s (s .header .end) (tail-of l)) (s .lists) (λ l i.
+      let e = list-end b s (meant b s opens) l i in
+      let from = e .free-from in
+      record { grown = old l i refl (omega arith); size = e .size; to = e .to; free-from = omega arith; free-to = e .free-to }));
+  }
+
+  module _ (ceiling : ℕ) (adds : List Add) (dones : Done-adds ceiling (blank s) adds) where
+    -- the adds of a draft
+    pub adds-step : Steps s (s .header .end) (layout s adds .end) (add-writes (blank s) adds)
+    adds-step = steps-laid s (blank s) ceiling adds held-blank dones
+
+    -- one more
+    pub add-step : (a : Add) → Fit-add a → Clean (add-checks ceiling (layout s adds) a)
+        → Steps s (layout s adds .end) (planned (layout s adds) a .layout .end) (planned (layout s adds) a .writes)
+    add-step a fit c = kept-planned s (layout s adds) ceiling a (held-laid s (blank s) ceiling adds held-blank dones) fit c .steps
+
+    -- and commit, up to the header's write
+    pub log-step : Steps s (layout s adds .end) (logged s (layout s adds) .end) (logged s (layout s adds) .writes)
+    log-step = steps-logged s (layout s adds) (log-end b s (meant b s opens)) (adds-step .rises)
+
+pub drafts-write-free : Drafts-write-free
+drafts-write-free b ceiling s adds bytes opens dones =
+    all-append (Writes-free s) (add-writes (blank s) adds) (logged s (layout s adds) .writes)
+      (adds-step b s opens ceiling adds dones .free) (log-step b s opens ceiling adds dones .free)
