@@ -8,3 +8,4 @@ pub mod Sizes
 pub mod Steps
 pub mod Adds
 pub mod Drafts
+pub mod Untouched

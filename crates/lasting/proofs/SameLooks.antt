@@ -1,10 +1,11 @@
--- Looks read nothing but the footprint: the law that only the footprint counts.
+-- Looks, and what a list holds, read nothing but the footprint: the law that only the footprint counts.
 -- Assumes nothing.
 use Prim.Native.Nat.{ℕ, zero, suc, _+_, _≤_}
 use mathlib.Core.Path.{_≡_, refl, sym, ap, subst, _∙_}
 use mathlib.Core.Logic.{_⊎_, inl, inr}
 use mathlib.Core.Bool.{true, false, not, _&&_, _||_}
 use mathlib.Core.List.{List, [], _∷_, map}
+use native.Mathlib.Nat.{add-zero}
 use native.Mathlib.Omega.{arith}
 use lib.Dec.{eqb, ltb, leb}
 use lib.ListN.{length, getD}
@@ -19,7 +20,8 @@ use Rattle.model.specs.Section.{NodeList, Section, count-at}
 use Rattle.model.specs.OpenedLists.{taken}
 use Rattle.model.specs.Opened.{opened}
 use Rattle.model.specs.Means.{data-spans, Means}
-use Rattle.model.specs.Looks.{Look, node-look, data-look, alike, bytes, no-node, nodes-of, node-of, data-of, seen-in, answered, look}
+use Rattle.model.specs.Looks.{Look, node-look, data-look, alike, bytes, no-node, nodes-of, node-of, reference-of, data-of, seen-in, answered, look}
+use Rattle.model.specs.Contents.{content-of, holds, held}
 use Rattle.model.specs.Laws.{Footprint, in-data, Local}
 use Rattle.meaning.proofs.Base.{unless-done}
 use Rattle.meaning.proofs.Members.{In, has-from-in, in-map, in-flat, all-in}
@@ -103,6 +105,24 @@ module _ (b c : List ℕ) (s : Section) (m : Means b s) (n : s .header .end ≤ 
           let (x, y) = or-parts (ltb (data-of n .size) (place + size)) (ltb (length buffer) size) t in
           rw t (ap (λ x. done (bytes x)) (data-same list place size n w (ltb-false (data-of n .size) (place + size) x)))
       ])
+
+  -- what a list holds
+  holds-same : (list : ℕ) (k : Node) → In k (nodes-of (s .lists) list) → holds c k ≡ holds b k
+  holds-same list k i =
+      let e = data-same list 0 (data-of k .size) k (inl i) (omega arith) in
+      let z = add-zero (data-of k .start) in
+      ap (λ x. content-of (k .id) (k .base) (reference-of k) (k .payload) x) (rw z at e)
+
+  map-same : (list : ℕ) (ks : List Node) → ((k : Node) → In k ks → In k (nodes-of (s .lists) list)) → map (holds c) ks ≡ map (holds b) ks
+  map-same list [] inside = refl
+  map-same list (k ∷ ks) inside =
+      let x = holds-same list k (inside k (inl refl)) in
+      let y = map-same list ks (λ n i. inside n (inr i)) in
+      cc
+
+  pub held-same : opened b ≡ done s → opened c ≡ done s → (list : ℕ) → held c list ≡ held b list
+  unfolding held
+  held-same e x list = rw (e, x) (map-same list (nodes-of (s .lists) list) (λ k i. i))
 
 pub local : Local
 unfolding look
