@@ -9,3 +9,4 @@ pub mod Steps
 pub mod Adds
 pub mod Drafts
 pub mod Untouched
+pub mod Effects
