@@ -10,3 +10,5 @@ pub mod Adds
 pub mod Drafts
 pub mod Untouched
 pub mod Effects
+pub mod HeaderWrite
+pub mod Opening
