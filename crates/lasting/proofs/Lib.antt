@@ -12,3 +12,4 @@ pub mod Untouched
 pub mod Effects
 pub mod HeaderWrite
 pub mod Opening
+pub mod InDraft
