@@ -13,3 +13,4 @@ pub mod Effects
 pub mod HeaderWrite
 pub mod Opening
 pub mod InDraft
+pub mod Sounds
