@@ -54,10 +54,10 @@ module _ (ceiling : ℕ) (b : List ℕ) (s : Section) (adds : List Add) (bytes :
     -- ---- the next add
 
     module _ (a : Add) (fit : Fit-add a) (c : Clean (add-checks ceiling (layout s adds) a)) where
-      abbrev its-writes : List Write
+      abbrev pub its-writes : List Write
       its-writes = planned (layout s adds) a .writes
 
-      abbrev its-end : ℕ
+      abbrev pub its-end : ℕ
       its-end = planned (layout s adds) a .layout .end
 
       pub its-step : Steps s (layout s adds .end) its-end its-writes
@@ -86,10 +86,10 @@ module _ (ceiling : ℕ) (b : List ℕ) (s : Section) (adds : List Add) (bytes :
 
     -- ---- the commit
 
-    abbrev log-writes : List Write
+    abbrev pub log-writes : List Write
     log-writes = logged s (layout s adds) .writes
 
-    abbrev log-to : ℕ
+    abbrev pub log-to : ℕ
     log-to = logged s (layout s adds) .end
 
     pub its-log-step : Steps s (layout s adds .end) log-to log-writes
@@ -99,10 +99,10 @@ module _ (ceiling : ℕ) (b : List ℕ) (s : Section) (adds : List Add) (bytes :
     log-same = steps-kept mid s (mid-same .opens) (layout s adds .end) log-to mid-long log-writes its-log-step
 
     module _ (guid : List ℕ) (guid-bytes : Bytes guid) (guid-length : length guid ≡ 16) (c : Clean (commit-checks ceiling s adds guid)) where
-      abbrev head : Write
+      abbrev pub head : Write
       head = header-write mid (s .header) log-to guid
 
-      abbrev new : List ℕ
+      abbrev pub new : List ℕ
       new = applied mid (committing mid s adds guid)
 
       pub head-is : Writes-header head

@@ -14,3 +14,4 @@ pub mod HeaderWrite
 pub mod Opening
 pub mod InDraft
 pub mod Sounds
+pub mod CutCalls
