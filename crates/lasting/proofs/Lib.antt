@@ -15,3 +15,4 @@ pub mod Opening
 pub mod InDraft
 pub mod Sounds
 pub mod CutCalls
+pub mod Lasting
