@@ -75,37 +75,37 @@ tails-later s a b ts h x =
     all-weaker (Tail-held s a) (Tail-held s b) (λ t y. record { grown = y .grown; size = y .size; to = omega arith; free-from = y .free-from; free-to = y .free-to }) ts x
 
 -- what stands behind the last node of a tail, up to the last mark, is free
-tail-free : (s : Section) (t : Tail) → Grown s t → nodes-from (t .fragment) ≤ t .free → (i : ℕ) → t .free ≤ i → i + 8 < end-of (t .fragment) → Free s i
-tail-free s t (old l j e k) f i x y =
+tail-free : {s : Section} {t : Tail} → Grown s t → nodes-from (t .fragment) ≤ t .free → (i : ℕ) → t .free ≤ i → i + 8 < end-of (t .fragment) → Free s i
+tail-free {s} {t} (old l j e k) f i x y =
     in-list (has-from-in (s .lists) l j) (omega arith) (let z : end-of (t .fragment) ≡ end-of (last-fragment (l .fragments)) = ap end-of e in omega arith)
-tail-free s t (fresh e) f i x y = past-end (omega arith)
+tail-free (fresh e) f i x y = past-end (omega arith)
 
-grown-more : (s : Section) (t u : Tail) → Grown s t → u .fragment ≡ t .fragment → t .free ≤ u .free → Grown s u
-grown-more s t u (old l i e k) f h = old l i (f ∙ e) (omega arith)
-grown-more s t u (fresh e) f h = fresh (rw f e)
+grown-more : {s : Section} {t : Tail} (u : Tail) → Grown s t → u .fragment ≡ t .fragment → t .free ≤ u .free → Grown s u
+grown-more u (old l i e k) f h = old l i (f ∙ e) (omega arith)
+grown-more u (fresh e) f h = fresh (rw f e)
 
 -- ---- one node
 
 -- the old fragment's terminator and next reference
-module _ (s : Section) (a b : ℕ) (t : Tail) (x : Tail-held s a t) (h : a ≤ b) where
+module _ {s : Section} {a b : ℕ} {t : Tail} (x : Tail-held s a t) (h : a ≤ b) where
   steps-close : Steps s b b (cond (leb (t .free + 4) (nodes-to (t .fragment))) (put (t .free) terminator ∷ []) [])
   steps-close = cond-both (leb (t .free + 4) (nodes-to (t .fragment))) (put (t .free) terminator ∷ []) [] (Steps s b b)
       (λ e.
         let n = length-digits 4 0x800010FF in
         let k = leb-true (t .free + 4) (nodes-to (t .fragment)) e in
-        steps-within s b (t .free) terminator (omega arith) (digits-bytes 4 0x800010FF)
-          (λ i u v. tail-free s t (x .grown) (x .free-from) i u (omega arith)))
-      (λ e. steps-none s b)
+        steps-within (t .free) terminator (omega arith) (digits-bytes 4 0x800010FF)
+          (λ i u v. tail-free (x .grown) (x .free-from) i u (omega arith)))
+      (λ e. steps-none)
 
   steps-next : (r : Span) → Steps s b b (put (nodes-to (t .fragment)) (span-bytes r) ∷ [])
   steps-next r =
       let n = length-span-bytes r in
-      steps-within s b (nodes-to (t .fragment)) (span-bytes r) (omega arith) (span-bytes-bytes r)
-        (λ i u v. tail-free s t (x .grown) (x .free-from) i (omega arith) (omega arith))
+      steps-within (nodes-to (t .fragment)) (span-bytes r) (omega arith) (span-bytes-bytes r)
+        (λ i u v. tail-free (x .grown) (x .free-from) i (omega arith) (omega arith))
 
-kept-node : (s : Section) (y : Layout) (id : ℕ) (new : List ℕ) → Draft-held s y → member id (map (λ t. t .id) (y .tails)) ≡ true → length new ≤ 988 → Bytes new
+kept-node : {s : Section} {y : Layout} (id : ℕ) (new : List ℕ) → Draft-held s y → member id (map (λ t. t .id) (y .tails)) ≡ true → length new ≤ 988 → Bytes new
     → Kept s y (with-node y id new)
-kept-node s y id new d m small bytes =
+kept-node {s} {y} id new d m small bytes =
     let t = find-tail (y .tails) id in
     let x : Tail-held s (y .end) t = find-held (Tail-held s (y .end)) (y .tails) id (d .tails) m in
     cond-both (leb (t .free + length new) (nodes-to (t .fragment))) (fitting y id new t) (spilling y id new t) (Kept s y)
@@ -115,12 +115,13 @@ kept-node s y id new d m small bytes =
           held = record {
             end = d .end;
             tails = with-held (Tail-held s (y .end)) _ (y .tails)
-              (record { grown = grown-more s t _ (x .grown) refl (omega arith); size = x .size; to = x .to; free-from = omega arith; free-to = omega arith })
+              (record { grown = grown-more _ (x .grown) refl (omega arith); size = x .size; to = x .to; free-from = omega arith; free-to = omega arith })
               (d .tails);
           };
-          steps = steps-within s (y .end) (t .free) new (omega arith) bytes (λ i u v. tail-free s t (x .grown) (x .free-from) i u (omega arith));
+          steps = steps-within (t .free) new (omega arith) bytes (λ i u v. tail-free (x .grown) (x .free-from) i u (omega arith));
         })
       (λ e.
+        let fresh-span = span (y .end) 1024 in
         let piece = new-fragment id (t .number + 1) new in
         let z = length-new-fragment id (t .number + 1) new small in
         let p = piece-ends y piece in
@@ -132,41 +133,41 @@ kept-node s y id new d m small bytes =
               (record { grown = fresh (d .end); size = omega arith; to = q; free-from = omega arith; free-to = omega arith })
               (tails-later s (y .end) _ (y .tails) (omega arith) (d .tails));
           };
-          steps = steps-append s (y .end) _ _ _ _ (steps-at-end s y piece (d .end) (fragment-bytes id (t .number + 1) new bytes))
-            (steps-append s _ _ _ _ _ (steps-close s (y .end) _ t x (omega arith)) (steps-next s (y .end) _ t x (omega arith) _));
+          steps = steps-append (steps-at-end y piece (d .end) (fragment-bytes id (t .number + 1) new bytes))
+            (steps-append (steps-close x (omega arith)) (steps-next x (omega arith) fresh-span));
         })
 
 -- ---- adds
 
 -- with a write before the others
-kept-after : (s : Section) (y z : Layout) (w : Write) (p : Plan) → Steps s (y .end) (z .end) (w ∷ []) → Kept s z p → Kept s y (after-write w p)
-kept-after s y z w p a k = record { held = k .held; steps = steps-append s (y .end) (z .end) (p .layout .end) (w ∷ []) (p .writes) a (k .steps) }
+kept-after : {s : Section} {y z : Layout} {w : Write} {p : Plan} → Steps s (y .end) (z .end) (w ∷ []) → Kept s z p → Kept s y (after-write w p)
+kept-after a k = record { held = k .held; steps = steps-append a (k .steps) }
 
-held-later : (s : Section) (y : Layout) (end : ℕ) → Draft-held s y → y .end ≤ end → Draft-held s (ending-at end y)
-held-later s y end d h = record { end = omega arith; tails = tails-later s (y .end) end (y .tails) h (d .tails) }
+held-later : {s : Section} {y : Layout} (end : ℕ) → Draft-held s y → y .end ≤ end → Draft-held s (ending-at end y)
+held-later {s} {y} end d h = record { end = omega arith; tails = tails-later s (y .end) end (y .tails) h (d .tails) }
 
-held-list : (s : Section) (y : Layout) (parent made end size : ℕ) → Draft-held s y → size ≤ 988 → y .end + 1024 ≤ end
+held-list : {s : Section} {y : Layout} (parent made end size : ℕ) → Draft-held s y → size ≤ 988 → y .end + 1024 ≤ end
     → Draft-held s (more-lists parent (tail made (span (y .end) 1024) 0 (nodes-from (span (y .end) 1024) + size) 1) (more-fragments (ending-at end y)))
-held-list s y parent made end size d small h = record {
+held-list {s} {y} parent made end size d small h = record {
   end = omega arith;
   tails = all-append (Tail-held s end) (y .tails) _ (tails-later s (y .end) end (y .tails) (omega arith) (d .tails))
     (record { grown = fresh (d .end); size = omega arith; to = h; free-from = omega arith; free-to = omega arith }, tt);
 }
 
 -- ADD: one that passes its checks keeps what is known of the draft, and writes to the free zone
-pub kept-planned : (s : Section) (y : Layout) (ceiling : ℕ) (a : Add) → Draft-held s y → Fit-add a → Clean (add-checks ceiling y a) → Kept s y (planned y a)
+pub kept-planned : {s : Section} {y : Layout} (ceiling : ℕ) (a : Add) → Draft-held s y → Fit-add a → Clean (add-checks ceiling y a) → Kept s y (planned y a)
 unfolding planned
-kept-planned s y ceiling (plain list id payload) d fit p =
+kept-planned {s} {y} ceiling (plain list id payload) d fit p =
     let k : 4 + length payload ≤ 988 = grind (arith, tells) in
-    kept-node s y list (plain-node id payload) d (grind (arith, tells)) (omega (arith, length-plain id payload)) (plain-bytes id payload fit)
-kept-planned s y ceiling (with-data list id payload content) d fit p =
+    kept-node list (plain-node id payload) d (grind (arith, tells)) (omega (arith, length-plain id payload)) (plain-bytes id payload fit)
+kept-planned {s} {y} ceiling (with-data list id payload content) d fit p =
     let r = span (y .end) (length content) in
     let k : 16 + length payload ≤ 988 = grind (arith, tells) in
     let q = piece-ends y content in
-    kept-after s y _ _ _ (steps-at-end s y content (d .end) (fit .1))
-      (kept-node s _ list (referring-node id 1 r payload) (held-later s y _ d (omega arith)) (grind (arith, tells)) (omega (arith, length-referring id 1 r payload))
+    kept-after (steps-at-end y content (d .end) (fit .1))
+      (kept-node list (referring-node id 1 r payload) (held-later _ d (omega arith)) (grind (arith, tells)) (omega (arith, length-referring id 1 r payload))
         (referring-bytes id 1 r payload (fit .0)))
-kept-planned s y ceiling (branch list id payload first-id first-payload) d fit p =
+kept-planned {s} {y} ceiling (branch list id payload first-id first-payload) d fit p =
     let r = span (y .end) 1024 in
     let made = y .highest + 1 in
     let first = plain-node first-id first-payload in
@@ -176,6 +177,6 @@ kept-planned s y ceiling (branch list id payload first-id first-payload) d fit p
     let z = length-new-fragment made 0 first g in
     let q = piece-ends y (new-fragment made 0 first) in
     let m : member list (map (λ t. t .id) (y .tails)) ≡ true = grind (arith, tells) in
-    kept-after s y _ _ _ (steps-at-end s y (new-fragment made 0 first) (d .end) (fragment-bytes made 0 first (plain-bytes first-id first-payload (fit .1))))
-      (kept-node s _ list (referring-node id 2 r payload) (held-list s y list made _ (length first) d g (omega arith)) (member-append list (y .tails) _ m)
+    kept-after (steps-at-end y (new-fragment made 0 first) (d .end) (fragment-bytes made 0 first (plain-bytes first-id first-payload (fit .1))))
+      (kept-node list (referring-node id 2 r payload) (held-list list made _ (length first) d g (omega arith)) (member-append list (y .tails) _ m)
         (omega (arith, length-referring id 2 r payload)) (referring-bytes id 2 r payload (fit .0)))

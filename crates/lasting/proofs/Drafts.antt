@@ -21,7 +21,7 @@ use Rattle.model.specs.LogFragments.{entry-bytes, entries-in, entry-place, log-
 use Rattle.model.specs.Section.{NodeList, Section}
 use Rattle.model.specs.Opened.{opened}
 use Rattle.model.specs.Layouts.{Add, Layout, tail-of, blank}
-use Rattle.model.specs.Saving.{at-end, planned, laid, layout}
+use Rattle.model.specs.Saving.{at-end, plan, planned, laid, layout}
 use Rattle.model.specs.Committing.{if-any, new-entries, logged}
 use Rattle.model.specs.Calls.{add-checks}
 use Rattle.model.specs.Journal.{Fit-add}
@@ -55,18 +55,13 @@ adds-push ceiling y (x ∷ xs) a (f, c, h) fit p = (f, c, adds-push ceiling (pla
 
 -- ---- all adds of a draft
 
-held-laid : (s : Section) (y : Layout) (ceiling : ℕ) (adds : List Add) → Draft-held s y → Done-adds ceiling y adds → Draft-held s (laid y adds)
+laid-kept : {s : Section} (ceiling : ℕ) (adds : List Add) {y : Layout} → Draft-held s y → Done-adds ceiling y adds → Kept s y (plan (laid y adds) (add-writes y adds))
 unfolding laid
-held-laid s y ceiling [] d p = d
-held-laid s y ceiling (a ∷ more) d (f, c, p) = held-laid s (planned y a .layout) ceiling more (kept-planned s y ceiling a d f c .held) p
-
-steps-laid : (s : Section) (y : Layout) (ceiling : ℕ) (adds : List Add) → Draft-held s y → Done-adds ceiling y adds → Steps s (y .end) (laid y adds .end) (add-writes y adds)
-unfolding laid
-steps-laid s y ceiling [] d p = steps-none s (y .end)
-steps-laid s y ceiling (a ∷ more) d (f, c, p) =
-    let k = kept-planned s y ceiling a d f c in
-    let z = planned y a .layout in
-    steps-append s (y .end) (z .end) (laid z more .end) (planned y a .writes) (add-writes z more) (k .steps) (steps-laid s z ceiling more (k .held) p)
+laid-kept ceiling [] d p = record { held = d; steps = steps-none }
+laid-kept ceiling (a ∷ more) d (f, c, p) =
+    let k = kept-planned ceiling a d f c in
+    let r = laid-kept ceiling more (k .held) p in
+    record { held = r .held; steps = steps-append (k .steps) (r .steps) }
 
 -- ---- the log's writes
 
@@ -76,7 +71,7 @@ last-log s = last-fragment (s .log .fragments)
 steps-rest : (s : Section) (y : Layout) (rest : List Entry) (r : Span) → Log-end s → s .header .end ≤ y .end
     → Steps s (y .end) (cond (ltb 0 (length rest)) (behind (at-end y (new-log-fragment rest))) (y .end))
         (if-any rest (at-end y (new-log-fragment rest) ∷ put (log-next (last-log s)) (span-bytes r) ∷ []))
-steps-rest s y [] r g h = steps-none s (y .end)
+steps-rest s y [] r g h = steps-none
 steps-rest s y (e ∷ es) r g h =
     let size = g .size in
     let to = g .to in
@@ -85,19 +80,18 @@ steps-rest s y (e ∷ es) r g h =
     let new = new-log-fragment (e ∷ es) in
     let p = piece-ends y new in
     let k : ltb 0 (length (e ∷ es)) ≡ true = lt-ltb 0 (length (e ∷ es)) (omega arith) in
-    rw k (steps-append s (y .end) (behind (at-end y new)) _ (at-end y new ∷ []) (put (log-next (last-log s)) (span-bytes r) ∷ [])
-      (steps-at-end s y new h (log-fragment-bytes (e ∷ es)))
-      (steps-within s (behind (at-end y new)) (log-next (last-log s)) (span-bytes r) (omega arith) (span-bytes-bytes r) (λ i u v. in-log (omega arith) (omega arith))))
+    rw k (steps-append (steps-at-end y new h (log-fragment-bytes (e ∷ es)))
+      (steps-within (log-next (last-log s)) (span-bytes r) (omega arith) (span-bytes-bytes r) (λ i u v. in-log (omega arith) (omega arith))))
 
 steps-fit : (s : Section) (a : ℕ) (fit : List Entry) → Log-end s → s .header .end ≤ a → length fit ≤ entries-in (last-log s .size) - s .log .used
     → Steps s a a (if-any fit (put (entry-place (last-log s) (s .log .used)) (entry-bytes fit) ∷ []))
-steps-fit s a [] g h k = steps-none s a
+steps-fit s a [] g h k = steps-none
 steps-fit s a (e ∷ es) g h k =
     let size = g .size in
     let to = g .to in
     let used-to = g .used-to in
     let z = length-entry-bytes (e ∷ es) in
-    steps-within s a (entry-place (last-log s) (s .log .used)) (entry-bytes (e ∷ es)) (omega arith) (entry-bytes-bytes (e ∷ es)) (λ i u v. in-log u (omega arith))
+    steps-within (entry-place (last-log s) (s .log .used)) (entry-bytes (e ∷ es)) (omega arith) (entry-bytes-bytes (e ∷ es)) (λ i u v. in-log u (omega arith))
 
 steps-logged : (s : Section) (y : Layout) → Log-end s → s .header .end ≤ y .end → Steps s (y .end) (logged s y .end) (logged s y .writes)
 steps-logged s y g d =
@@ -106,8 +100,7 @@ steps-logged s y g d =
     let e : ltb 0 (length (drop places es)) ≡ ltb places (length es) = simp length-drop (grind (arith, tells)) in
     let one = rw e at (steps-rest s y (drop places es) (span (y .end) 1024) g d) in
     let up = one .rises in
-    steps-append s (y .end) (logged s y .end) (logged s y .end) _ _ one
-      (steps-fit s (logged s y .end) (take places es) g (omega arith) (simp length-take (omega arith)))
+    steps-append one (steps-fit s (logged s y .end) (take places es) g (omega arith) (simp length-take (omega arith)))
 
 -- ---- over an accepted file
 
@@ -124,12 +117,12 @@ module _ (b : List ℕ) (s : Section) (opens : opened b ≡ done s) where
   module _ (ceiling : ℕ) (adds : List Add) (dones : Done-adds ceiling (blank s) adds) where
     -- the adds of a draft
     pub adds-step : Steps s (s .header .end) (layout s adds .end) (add-writes (blank s) adds)
-    adds-step = steps-laid s (blank s) ceiling adds held-blank dones
+    adds-step = laid-kept ceiling adds held-blank dones .steps
 
     -- one more
     pub add-step : (a : Add) → Fit-add a → Clean (add-checks ceiling (layout s adds) a)
         → Steps s (layout s adds .end) (planned (layout s adds) a .layout .end) (planned (layout s adds) a .writes)
-    add-step a fit c = kept-planned s (layout s adds) ceiling a (held-laid s (blank s) ceiling adds held-blank dones) fit c .steps
+    add-step a fit c = kept-planned ceiling a (laid-kept ceiling adds held-blank dones .held) fit c .steps
 
     -- and commit, up to the header's write
     pub log-step : Steps s (layout s adds .end) (logged s (layout s adds) .end) (logged s (layout s adds) .writes)

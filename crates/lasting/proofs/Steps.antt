@@ -24,8 +24,8 @@ pub record Steps (s : Section) (from to : ℕ) (ws : List Write) : Type 0 where
   -- and then reaches the new end, and no further
   pub reaches : (n : ℕ) → from ≤ n → length-after n ws ≡ max n to
 
-pub steps-append : (s : Section) (a b c : ℕ) (ws vs : List Write) → Steps s a b ws → Steps s b c vs → Steps s a c (ws ++ vs)
-steps-append s a b c ws vs x y =
+pub steps-append : {s : Section} {a b c : ℕ} {ws vs : List Write} → Steps s a b ws → Steps s b c vs → Steps s a c (ws ++ vs)
+steps-append {s} {a} {b} {c} {ws} {vs} x y =
     let up = x .rises in
     let more = y .rises in
     record {
@@ -42,12 +42,12 @@ steps-append s a b c ws vs x y =
         omega arith;
     }
 
-pub steps-none : (s : Section) (a : ℕ) → Steps s a a []
-steps-none s a = record { rises = omega arith; free = tt; are-bytes = tt; taken = λ n ceiling h k l. tt; reaches = λ n h. omega arith }
+pub steps-none : {s : Section} {a : ℕ} → Steps s a a []
+steps-none = record { rises = omega arith; free = tt; are-bytes = tt; taken = λ n ceiling h k l. tt; reaches = λ n h. omega arith }
 
 -- a write at the draft's end
-steps-piece : (s : Section) (a : ℕ) (new : List ℕ) → s .header .end ≤ a → Bytes new → Steps s a (a + length new) (put a new ∷ [])
-steps-piece s a new e bytes = record {
+steps-piece : {s : Section} (a : ℕ) (new : List ℕ) → s .header .end ≤ a → Bytes new → Steps s a (a + length new) (put a new ∷ [])
+steps-piece a new e bytes = record {
   rises = omega arith;
   free = (λ i l h. past-end (omega arith), tt);
   are-bytes = (bytes, tt);
@@ -55,12 +55,12 @@ steps-piece s a new e bytes = record {
   reaches = λ n h. omega arith;
 }
 
-pub steps-at-end : (s : Section) (y : Layout) (new : List ℕ) → s .header .end ≤ y .end → Bytes new → Steps s (y .end) (behind (at-end y new)) (at-end y new ∷ [])
-steps-at-end s y new e bytes = steps-piece s (y .end) (at-end y new .new) e (piece-bytes y new bytes)
+pub steps-at-end : {s : Section} (y : Layout) (new : List ℕ) → s .header .end ≤ y .end → Bytes new → Steps s (y .end) (behind (at-end y new)) (at-end y new ∷ [])
+steps-at-end y new e bytes = steps-piece (y .end) (at-end y new .new) e (piece-bytes y new bytes)
 
 -- a write before the draft's end
-pub steps-within : (s : Section) (a p : ℕ) (new : List ℕ) → p + length new ≤ a → Bytes new → ((i : ℕ) → p ≤ i → i < p + length new → Free s i) → Steps s a a (put p new ∷ [])
-steps-within s a p new h bytes z = record {
+pub steps-within : {s : Section} {a : ℕ} (p : ℕ) (new : List ℕ) → p + length new ≤ a → Bytes new → ((i : ℕ) → p ≤ i → i < p + length new → Free s i) → Steps s a a (put p new ∷ [])
+steps-within p new h bytes z = record {
   rises = omega arith;
   free = (z, tt);
   are-bytes = (bytes, tt);
