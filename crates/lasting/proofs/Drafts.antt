@@ -109,7 +109,7 @@ module _ (b : List ℕ) (s : Section) (opens : opened b ≡ done s) where
   held-blank = record {
     end = omega arith;
     tails = all-map (Tail-held s (s .header .end)) tail-of (s .lists) (all-from-in (λ l. Tail-held s (s .header .end) (tail-of l)) (s .lists) (λ l i.
-      let e = list-end b s (meant b s opens) l i in
+      let e = list-end (meant b s opens) l i in
       let from = e .free-from in
       record { grown = old l i refl (omega arith); size = e .size; to = e .to; free-from = omega arith; free-to = e .free-to }));
   }
@@ -126,7 +126,7 @@ module _ (b : List ℕ) (s : Section) (opens : opened b ≡ done s) where
 
     -- and commit, up to the header's write
     pub log-step : Steps s (layout s adds .end) (logged s (layout s adds) .end) (logged s (layout s adds) .writes)
-    log-step = steps-logged s (layout s adds) (log-end b s (meant b s opens)) (adds-step .rises)
+    log-step = steps-logged s (layout s adds) (log-end (meant b s opens)) (adds-step .rises)
 
 pub drafts-write-free : Drafts-write-free
 drafts-write-free b ceiling s adds bytes opens dones =

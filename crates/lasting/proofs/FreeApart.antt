@@ -57,11 +57,11 @@ each-list (n ∷ ns) l p x =
 abbrev Used : List Span → Type 0 → ℕ → Type 0
 Used fs P i = (f : Span) × In f fs × Within f i × (In f (but-last fs) ⊎ P)
 
-module _ (b : List ℕ) (s : Section) (m : Means b s) where
+module _ {b : List ℕ} {s : Section} (m : Means b s) where
   used-of-list : (l : NodeList) (r : Span) (i : ℕ) → In l (s .lists) → In r (list-footprint l) → Within r i
       → Used (l .fragments) ((i < l .free) ⊎ (end-of (last-fragment (l .fragments)) ≤ i + 8)) i
   used-of-list l r i j k w =
-      let e = list-end b s m l j in
+      let e = list-end m l j in
       let free-from = e .free-from in
       let free-to = e .free-to in
       let size = e .size in
@@ -75,7 +75,7 @@ module _ (b : List ℕ) (s : Section) (m : Means b s) where
   used-of-log : (r : Span) (i : ℕ) → In r (log-footprint (s .log)) → Within r i
       → Used (s .log .fragments) (i < last-fragment (s .log .fragments) .start + 8 * s .log .used) i
   used-of-log r i k w =
-      let e = log-end b s m in
+      let e = log-end m in
       let used-to = e .used-to in
       let size = e .size in
       let f = last-fragment (s .log .fragments) in
@@ -105,13 +105,13 @@ module _ (b : List ℕ) (s : Section) (m : Means b s) where
   past-apart i h (in-header w) = let least = m .header .least in omega arith
   past-apart i h (in-log {r = r} k w) =
       let (f, j, x, u) = used-of-log r i (in-from-has (log-footprint (s .log)) r k) w in
-      let (y, z) = log-inside b s m f j in
+      let (y, z) = log-inside m f j in
       let q = x .1 in
       omega arith
   past-apart i h (in-list {l = l} {r = r} g k w) =
       let n = in-from-has (s .lists) l g in
       let (f, j, x, u) = used-of-list l r i n (in-from-has (list-footprint l) r k) w in
-      let (y, z) = list-inside b s m l f n j in
+      let (y, z) = list-inside m l f n j in
       let q = x .1 in
       omega arith
   past-apart i h (in-data {r = r} k w) =
@@ -122,7 +122,7 @@ module _ (b : List ℕ) (s : Section) (m : Means b s) where
   log-apart : (i : ℕ) → Within (last-fragment (s .log .fragments)) i → last-fragment (s .log .fragments) .start + 8 * s .log .used ≤ i → Footprint s i → ⊥
   log-apart i here h foot =
       let g = last-fragment (s .log .fragments) in
-      let last = log-end b s m .last in
+      let last = log-end m .last in
       let a = in-left (s .log .fragments) (list-fragments (s .lists)) g last in
       elim foot [
         | in-header w ↦ not-in-header g i a here w
@@ -142,8 +142,8 @@ module _ (b : List ℕ) (s : Section) (m : Means b s) where
   list-apart : (i : ℕ) (l : NodeList) → In l (s .lists) → Within (last-fragment (l .fragments)) i → l .free ≤ i → i + 8 < end-of (last-fragment (l .fragments)) → Footprint s i → ⊥
   list-apart i l n here h h′ foot =
       let g = last-fragment (l .fragments) in
-      let last = list-end b s m l n .last in
-      let a = in-fragments b s m l g n last in
+      let last = list-end m l n .last in
+      let a = in-fragments s l g n last in
       elim foot [
         | in-header w ↦ not-in-header g i a here w
         | in-log {r = r} k w ↦
@@ -163,13 +163,13 @@ module _ (b : List ℕ) (s : Section) (m : Means b s) where
       ]
 
 pub free-apart : Free-apart
-free-apart b s e i foot (past-end h) = past-apart b s (meant b s e) i h foot
+free-apart b s e i foot (past-end h) = past-apart (meant b s e) i h foot
 free-apart b s e i foot (in-log x y) =
-    let k = log-end b s (meant b s e) in
+    let k = log-end (meant b s e) in
     let size = k .size in
-    log-apart b s (meant b s e) i (omega arith, omega arith) (omega arith) foot
+    log-apart (meant b s e) i (omega arith, omega arith) (omega arith) foot
 free-apart b s e i foot (in-list {l = l} n x y) =
     let j = in-from-has (s .lists) l n in
-    let k = list-end b s (meant b s e) l j in
+    let k = list-end (meant b s e) l j in
     let from = k .free-from in
-    list-apart b s (meant b s e) i l j (omega arith, omega arith) x (omega arith) foot
+    list-apart (meant b s e) i l j (omega arith, omega arith) x (omega arith) foot

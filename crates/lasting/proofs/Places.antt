@@ -59,13 +59,10 @@ pub record Log-end (s : Section) : Type 0 where
   pub used-from : 1 ≤ s .log .used
   pub used-to : s .log .used ≤ entries-in (last-fragment (s .log .fragments) .size)
 
-module _ (b : List ℕ) (s : Section) (m : Means b s) where
-  pub in-list-fragments : (l : NodeList) (f : Span) → In l (s .lists) → In f (l .fragments) → In f (list-fragments (s .lists))
-  in-list-fragments l f i j = in-flat (λ (l : NodeList). l .fragments) (s .lists) l f i j
+pub in-fragments : (s : Section) (l : NodeList) (f : Span) → In l (s .lists) → In f (l .fragments) → In f (fragments-of s)
+in-fragments s l f i j = in-right (s .log .fragments) (list-fragments (s .lists)) f (in-flat (λ (l : NodeList). l .fragments) (s .lists) l f i j)
 
-  pub in-fragments : (l : NodeList) (f : Span) → In l (s .lists) → In f (l .fragments) → In f (fragments-of s)
-  in-fragments l f i j = in-right (s .log .fragments) (list-fragments (s .lists)) f (in-list-fragments l f i j)
-
+module _ {b : List ℕ} {s : Section} (m : Means b s) where
   header-apart : (f : Span) → In f (fragments-of s) → Apart header-span f
   header-apart f i = all-in (Apart header-span) (fragments-of s) f (m .fragments-apart .0) i
 
@@ -83,7 +80,7 @@ module _ (b : List ℕ) (s : Section) (m : Means b s) where
       let (x, y) = list-inside l f i j in
       record {
         last = j;
-        from = behind-header f (omega arith) (header-apart f (in-fragments l f i j));
+        from = behind-header f (omega arith) (header-apart f (in-fragments s l f i j));
         size = x;
         to = y;
         free-from = st .ends;

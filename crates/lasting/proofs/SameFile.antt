@@ -156,7 +156,7 @@ module _ (b c : List ℕ) where
         log = logs-same (s .header) (s .log)
           (all-from-in (Alike b c) (log-footprint (s .log)) (λ r j i l k. sym (h i (in-log (has-from-in (log-footprint (s .log)) r j) (l, k))))) (m .log);
         lists = all-from-in (Stands c (s .header) (s .log)) (s .lists) (λ l j.
-          stands-same s l stored n (list-end b s m l j)
+          stands-same s l stored n (list-end m l j)
             (all-from-in (Alike b c) (list-footprint l) (λ r k i x y. sym (h i (in-list (has-from-in (s .lists) l j) (has-from-in (list-footprint l) r k) (x, y)))))
             (all-in (Stands b (s .header) (s .log)) (s .lists) l (m .lists) j));
         reached = m .reached;
