@@ -14,20 +14,20 @@ use Rattle.model.specs.Section.{Section}
 use Rattle.model.specs.Opened.{opened}
 use Rattle.model.specs.Looks.{Look, looks-to, look}
 use Rattle.model.specs.Layouts.{Add, blank}
-use Rattle.model.specs.Saving.{layout}
-use Rattle.model.specs.Committing.{committing}
+use Rattle.model.specs.Saving.{planned, layout}
+use Rattle.model.specs.Committing.{logged}
 use Rattle.model.specs.Calls.{Draft, Access, State, Call, open-file, add, commit, saw, Effect, commit-checks, effect, writes-of, writes, after}
 use Rattle.model.specs.Journal.{Fit, shut, Look-alike}
 use Rattle.model.specs.Cuts.{Writes-header, Cut, old-header, new-header, torn, raised}
 use Rattle.model.specs.Contents.{held, saved, saved-in, drafted}
-use Rattle.model.specs.Laws.{Writes-free, Done-adds, Commits-to, Commit-reads, Looks-grow, adds-of, Survives, Cuts-survive}
+use Rattle.model.specs.Laws.{Writes-free, Commits-to, Commit-reads, Looks-grow, adds-of, Survives, Cuts-survive}
 use Rattle.meaning.proofs.Base.{Clean, all-front}
 use Rattle.lasting.proofs.Steps.{Steps}
 use Rattle.lasting.proofs.Untouched.{Same-file, not-header, cut-kept}
-use Rattle.lasting.proofs.Effects.{open-state, Does, stays, rests, grows, ends, does}
+use Rattle.lasting.proofs.Effects.{open-state, Does, stays, rests, grows, ends}
 use Rattle.lasting.proofs.Opening.{opened-answer, opened-look, sees}
-use Rattle.lasting.proofs.InDraft.{drafted-bytes, mid-same, mid-long, its-end, its-writes, its-step, log-writes, log-to, its-log-step, log-same, head, new, head-is, committing-is, new-is}
-use Rattle.lasting.proofs.Sounds.{sound-is, sound-below}
+use Rattle.lasting.proofs.InDraft.{drafted-bytes, Drafting, log-writes, last-write, committed-bytes, mid-same, mid-long, next-step, logs-step, logs-same, committing-is, committed-is, last-is-header}
+use Rattle.lasting.proofs.Sounds.{does-here, sound-drafting, of-sound}
 
 -- ---- lists
 
@@ -64,8 +64,7 @@ unfolding drafted saved
 drafted-is ceiling b s mark begins None id h = rw h
 drafted-is ceiling b s mark begins (Some adds) id h = rw h
 
-module _ (ceiling : ℕ) (b : List ℕ) (s : Section) (d : Access) (bytes : Bytes b) (opens : opened b ≡ done s) (dones : Done-adds ceiling (blank s) (adds-of (d .draft)))
-    (below : length (drafted-bytes b s (adds-of (d .draft))) ≤ ceiling) where
+module _ {ceiling : ℕ} {b : List ℕ} {s : Section} (d : Access) (x : Drafting ceiling b s (adds-of (d .draft))) where
   abbrev adds : List Add
   adds = adds-of (d .draft)
 
@@ -75,18 +74,15 @@ module _ (ceiling : ℕ) (b : List ℕ) (s : Section) (d : Access) (bytes : Byte
   abbrev here : State
   here = open-state ceiling mid d
 
-  same : Same-file b mid s
-  same = mid-same ceiling b s adds bytes opens dones
-
   -- looks after opening t are looks here, if they are looks over the bytes here
   looks-here : (t : List ℕ) (section : Section) → opened t ≡ done section → (mark k : ℕ) → ((l : Look) → looks-to l ≡ k → look t l ≡ look mid l)
       → Look-alike k (after (shut t ceiling) (open-file mark)) here
   looks-here t section o mark k h l q = opened-look t section o ceiling mark l ∙ ap saw (h l q) ∙ sym (sees ceiling mid d l)
 
   -- a cut that leaves the finished file
-  unharmed : (c : Call) (x : List ℕ) (w : Write) (t : List ℕ) (cut : Cut x w t) → raised c cut ≡ 0 → Same-file mid t s → (mark : ℕ)
+  unharmed : (c : Call) {z : List ℕ} {w : Write} {t : List ℕ} (cut : Cut z w t) → raised c cut ≡ 0 → Same-file mid t s → (mark : ℕ)
       → Survives here (s .header .count) ceiling c cut mark
-  unharmed c x w t cut r f mark = record {
+  unharmed c {z} {w} {t} cut r f mark = record {
     section = s;
     opens = opened-answer t s (f .opens) ceiling mark;
     count = omega (arith, r);
@@ -95,77 +91,64 @@ module _ (ceiling : ℕ) (b : List ℕ) (s : Section) (d : Access) (bytes : Byte
   }
 
   -- a cut in a step that does not raise the count
-  cut-step : (c : Call) (from to : ℕ) (ws before later : List Write) (w : Write) → from ≤ length mid → Steps s from to ws → ws ≡ before ++ (w ∷ later)
+  cut-step : (c : Call) (to : ℕ) (ws before later : List Write) (w : Write) → Steps s (layout s adds .end) to ws → ws ≡ before ++ (w ∷ later)
       → (t : List ℕ) (cut : Cut (applied mid before) w t) → ((Writes-header w → ⊥) → raised c cut ≡ 0) → (mark : ℕ) → Survives here (s .header .count) ceiling c cut mark
-  cut-step c from to ws before later w reach st e t cut r mark =
-      let st′ = subst (Steps s from to) e st in
-      let (x, y) = all-front (Writes-free s) before (w ∷ later) (st′ .free) in
-      unharmed c (applied mid before) w t cut (r (not-header mid s (same .opens) w (y .0))) (cut-kept mid s (same .opens) from to reach before later w t st′ cut) mark
+  cut-step c to ws before later w st e t cut r mark =
+      let opens = mid-same x .opens in
+      let split = subst (Steps s (layout s adds .end) to) e st in
+      let (y, z) = all-front (Writes-free s) before (w ∷ later) (split .free) in
+      unharmed c cut (r (not-header mid s opens w (z .0))) (cut-kept mid s opens (layout s adds .end) to (mid-long x) before later w t split cut) mark
 
   module _ (reads : Commit-reads) (grow : Looks-grow) where
     module _ (token : Draft) (guid : List ℕ) (gb : Bytes guid) (gl : length guid ≡ 16) (p : Clean (commit-checks ceiling s adds guid)) where
-      abbrev next : List ℕ
-      next = new ceiling b s adds bytes opens dones below guid gb gl p
-
-      abbrev header : Write
-      header = head ceiling b s adds bytes opens dones below guid gb gl p
-
-      abbrev logs : List Write
-      logs = log-writes ceiling b s adds bytes opens dones below
-
       -- the new header stands
-      grown-by : (c : Call) (x : List ℕ) (w : Write) (t : List ℕ) (cut : Cut x w t) → raised c cut ≡ 1 → t ≡ next → (mark : ℕ) → Survives here (s .header .count) ceiling c cut mark
-      grown-by c x w t cut r e mark =
-          let k : Commits-to b s adds next guid = reads b ceiling s adds guid bytes gb gl opens dones p in
+      grown-by : (c : Call) {z : List ℕ} {w : Write} {t : List ℕ} (cut : Cut z w t) → raised c cut ≡ 1 → t ≡ committed-bytes b s adds guid → (mark : ℕ)
+          → Survives here (s .header .count) ceiling c cut mark
+      grown-by c {z} {w} {t} cut r e mark =
+          let k : Commits-to b s adds (committed-bytes b s adds guid) guid = reads b ceiling s adds guid (x .are-bytes) gb gl (x .opens) (x .dones) p in
           let o : opened t ≡ done (k .section) = ap opened e ∙ k .opens in
           record {
             section = k .section;
             opens = opened-answer t (k .section) o ceiling mark;
             count = k .count ∙ ap (λ n. s .header .count + n) (sym r);
             looks = λ i one h. looks-here t (k .section) o mark i (λ l q.
-              ap (λ y. look y l) e ∙ grow b ceiling s adds guid bytes gb gl opens dones p l (omega arith) (omega arith) ∙ sym (same .looks l));
+              ap (λ y. look y l) e ∙ grow b ceiling s adds guid (x .are-bytes) gb gl (x .opens) (x .dones) p l (omega arith) (omega arith) ∙ sym (mid-same x .looks l));
             grown = λ q id.
-              ap (λ y. held y id) e ∙ k .grown id ∙ ap (λ ns. ns ++ saved (blank s) adds id) (sym (same .holds id))
-              ∙ ap (λ ns. held mid id ++ ns) (sym (drafted-is ceiling mid s (d .mark) (d .begins) (d .draft) id (same .opens)));
+              ap (λ y. held y id) e ∙ k .grown id ∙ ap (λ ns. ns ++ saved (blank s) adds id) (sym (mid-same x .holds id))
+              ∙ ap (λ ns. held mid id ++ ns) (sym (drafted-is ceiling mid s (d .mark) (d .begins) (d .draft) id (mid-same x .opens)));
           }
 
       -- a cut in the header's write
-      cut-header : (x : List ℕ) (w : Write) (t : List ℕ) → x ≡ applied mid logs → w ≡ header → (cut : Cut x w t) (mark : ℕ) → Survives here (s .header .count) ceiling (commit token guid) cut mark
-      cut-header x w t q r (old-header k) mark =
-          unharmed (commit token guid) x w x (old-header k) refl
-            (subst (λ y. Same-file mid y s) (sym q) (log-same ceiling b s adds bytes opens dones below)) mark
-      cut-header x w t q r (new-header k) mark =
-          let e : written x (w .place) (w .new) ≡ next =
-              ap (λ y. written y (w .place) (w .new)) q ∙ ap (λ (v : Write). written (applied mid logs) (v .place) (v .new)) r ∙ sym (new-is ceiling b s adds bytes opens dones below guid gb gl p) in
-          grown-by (commit token guid) x w (written x (w .place) (w .new)) (new-header k) refl e mark
-      cut-header x w t q r (torn k c d e f) mark = absurd (k (subst Writes-header (sym r) (head-is ceiling b s adds bytes opens dones below guid gb gl p)))
+      cut-header : (z : List ℕ) (w : Write) (t : List ℕ) → z ≡ applied mid (log-writes s adds) → w ≡ last-write b s adds guid
+          → (cut : Cut z w t) (mark : ℕ) → Survives here (s .header .count) ceiling (commit token guid) cut mark
+      cut-header z w t q r (old-header k) mark = unharmed (commit token guid) (old-header k) refl (subst (λ y. Same-file mid y s) (sym q) (logs-same x)) mark
+      cut-header z w t q r (new-header k) mark =
+          let e : written z (w .place) (w .new) ≡ committed-bytes b s adds guid =
+              ap (λ y. written y (w .place) (w .new)) q ∙ ap (λ (v : Write). written (applied mid (log-writes s adds)) (v .place) (v .new)) r ∙ sym (committed-is x guid) in
+          grown-by (commit token guid) (new-header k) refl e mark
+      cut-header z w t q r (torn k c d e f) mark = absurd (k (subst Writes-header (sym r) (last-is-header x guid gb gl)))
 
-    survives-by : (c : Call) (o : Outcome Effect) → Does ceiling mid s d c o → (before later : List Write) (w : Write) → writes-of o ≡ before ++ (w ∷ later)
+    survives : (c : Call) (o : Outcome Effect) → Does ceiling mid s d c o → (before later : List Write) (w : Write) → writes-of o ≡ before ++ (w ∷ later)
         → (t : List ℕ) (cut : Cut (applied mid before) w t) (mark : ℕ) → Survives here (s .header .count) ceiling c cut mark
-    survives-by c o (stays x y z) before later w e t cut mark = absurd (never-empty before w later (sym y ∙ e))
-    survives-by c o (rests a n draft x y) before later w e t cut mark = absurd (never-empty before w later e)
-    survives-by c o (grows token a x y fit p) before later w e t cut mark =
-        cut-step (add token a) (layout s adds .end) (its-end ceiling b s adds bytes opens dones below a fit p) (its-writes ceiling b s adds bytes opens dones below a fit p) before later w
-          (mid-long ceiling b s adds bytes opens dones) (its-step ceiling b s adds bytes opens dones below a fit p) e t cut (λ h. refl) mark
-    survives-by c o (ends token guid gb gl p) before later w e t cut mark =
-        elim (at-last (logs token guid gb gl p) (header token guid gb gl p) before w later (sym (committing-is ceiling b s adds bytes opens dones below guid gb gl p) ∙ e)) [
+    survives c o (stays i j k) before later w e t cut mark = absurd (never-empty before w later (sym j ∙ e))
+    survives c o (rests a n draft i j) before later w e t cut mark = absurd (never-empty before w later e)
+    survives c o (grows token a y i fit p) before later w e t cut mark =
+        cut-step (add token a) (planned (layout s adds) a .layout .end) (planned (layout s adds) a .writes) before later w (next-step x a fit p) e t cut (λ h. refl) mark
+    survives c o (ends token guid gb gl p) before later w e t cut mark =
+        elim (at-last (log-writes s adds) (last-write b s adds guid) before w later (sym (committing-is x guid) ∙ e)) [
           | inl (q, r) ↦ cut-header token guid gb gl p (applied mid before) w t (ap (applied mid) q) r cut mark
           | inr (rest, q) ↦
-              cut-step (commit token guid) (layout s adds .end) (log-to ceiling b s adds bytes opens dones below) (logs token guid gb gl p) before rest w
-                (mid-long ceiling b s adds bytes opens dones) (its-log-step ceiling b s adds bytes opens dones below) q t cut
+              cut-step (commit token guid) (logged s (layout s adds) .end) (log-writes s adds) before rest w (logs-step x) q t cut
                 (λ h. not-raised token guid (applied mid before) w t h cut) mark
         ]
 
     pub survives-here : (c : Call) → Fit c → (before later : List Write) (w : Write) → writes here c ≡ before ++ (w ∷ later)
         → (t : List ℕ) (cut : Cut (applied mid before) w t) (mark : ℕ) → Survives here (s .header .count) ceiling c cut mark
     unfolding writes
-    survives-here c fit = survives-by c (effect here c) (does ceiling mid s (same .opens) (d .mark) (d .begins) (d .draft) c fit)
+    survives-here c fit = survives c (effect here c) (does-here d x c fit)
 
 pub cuts-survive : Commit-reads → Looks-grow → Cuts-survive
 cuts-survive reads grow st n ceiling c k fit =
-    let go = survives-here ceiling (k .start) (k .section) (k .access) (k .are-bytes) (k .finished) (k .adds) (sound-below st n ceiling k) reads grow c fit in
-    subst (λ m. (before later : List Write) (w : Write) → writes st c ≡ before ++ (w ∷ later)
-        → (t : List ℕ) (cut : Cut (applied (st .bytes) before) w t) (mark : ℕ) → Survives st m ceiling c cut mark) (k .count)
-      (subst (λ (x : State). (before later : List Write) (w : Write) → writes x c ≡ before ++ (w ∷ later)
-          → (t : List ℕ) (cut : Cut (applied (x .bytes) before) w t) (mark : ℕ) → Survives x (k .section .header .count) ceiling c cut mark)
-        (sym (sound-is st n ceiling k)) go)
+    of-sound (λ (st : State) m. (before later : List Write) (w : Write) → writes st c ≡ before ++ (w ∷ later)
+        → (t : List ℕ) (cut : Cut (applied (st .bytes) before) w t) (mark : ℕ) → Survives st m ceiling c cut mark) k
+      (survives-here (k .access) (sound-drafting k) reads grow c fit)

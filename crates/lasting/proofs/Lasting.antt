@@ -84,4 +84,4 @@ module _ (reads : Commit-reads) (grow : Looks-grow) where
   finished-states-last j = (looks-stand j, cuts-reopen j)
 
   pub writes-taken : Writes-taken
-  writes-taken j c fit = sound-takes (end-state j) (end-count j) (j .ceiling) c (end-sound j) fit
+  writes-taken j c fit = sound-takes c (end-sound j) fit
