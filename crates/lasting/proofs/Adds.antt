@@ -1,9 +1,9 @@
 -- One add over an accepted file: it keeps what is known of a draft's layout, and writes to the free zone only.
 -- Assumes nothing.
-use Prim.Native.Nat.{ℕ, _+_, _-_, _<_, _≤_}
+use Prim.Native.Nat.{ℕ, _+_, _<_, _≤_}
 use mathlib.Core.Path.{_≡_, refl, ap, _∙_}
 use mathlib.Core.Logic.{inl, inr}
-use mathlib.Core.Bool.{true, false, cond, _||_}
+use mathlib.Core.Bool.{true, cond}
 use mathlib.Core.List.{List, [], _∷_, _++_, map}
 use native.Mathlib.Omega.{arith}
 use lib.Dec.{eqb, leb}
@@ -18,7 +18,7 @@ use Rattle.model.specs.References.{span, end-of, span-bytes}
 use Rattle.model.specs.Nodes.{plain-node, referring-node, terminator}
 use Rattle.model.specs.ListFragments.{nodes-from, nodes-to, new-fragment}
 use Rattle.model.specs.Section.{NodeList, Section}
-use Rattle.model.specs.Layouts.{Add, plain, with-data, branch, Tail, tail, Layout, member, find-tail, with-tail, ending-at, more-fragments, touching, more-lists}
+use Rattle.model.specs.Layouts.{Add, plain, with-data, branch, Tail, tail, Layout, member, find-tail, with-tail, ending-at, more-fragments, more-lists}
 use Rattle.model.specs.Saving.{at-end, Plan, after-write, fitting, spilling, with-node, planned}
 use Rattle.model.specs.Calls.{add-checks}
 use Rattle.model.specs.Journal.{Fit-add}

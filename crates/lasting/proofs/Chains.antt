@@ -1,13 +1,12 @@
 -- Fragments of one list or of the log, one after the other: the last of them, and those before it.
 -- Assumes nothing.
-use Prim.Native.Nat.{ℕ, _≤_}
+use Prim.Native.Nat.{_≤_}
 use mathlib.Core.Path.{refl, subst}
 use mathlib.Core.Logic.{inl, inr}
 use mathlib.Core.List.{List, [], _∷_}
 use native.Mathlib.Omega.{arith}
 use lib.ListN.{length}
 use Rattle.model.specs.declared.types.Span.{Span}
-use Rattle.model.specs.References.{span}
 use Rattle.model.specs.Section.{last-of}
 use Rattle.model.specs.Means.{Apart, Pairwise}
 use Rattle.model.specs.Laws.{but-last, last-fragment}

@@ -1,6 +1,6 @@
 -- Whatever a cut in a call leaves opens as a finished file: the old one, or the new one where a commit's new header stands.
 -- Assumes nothing but two laws of commit, which are parameters.
-use Prim.Native.Nat.{ℕ, _+_, _≤_}
+use Prim.Native.Nat.{ℕ, _+_}
 use mathlib.Core.Path.{_≡_, refl, sym, ap, _∙_, subst}
 use mathlib.Core.Logic.{_⊎_, inl, inr}
 use mathlib.Core.List.{List, [], _∷_, _++_}
@@ -19,7 +19,7 @@ use Rattle.model.specs.Committing.{logged}
 use Rattle.model.specs.Calls.{Draft, Access, State, Call, open-file, add, commit, saw, Effect, commit-checks, effect, writes-of, writes, after}
 use Rattle.model.specs.Journal.{Fit, shut, Look-alike}
 use Rattle.model.specs.Cuts.{Writes-header, Cut, old-header, new-header, torn, raised}
-use Rattle.model.specs.Contents.{held, saved, saved-in, drafted}
+use Rattle.model.specs.Contents.{held, saved, drafted}
 use Rattle.model.specs.Laws.{Writes-free, Commits-to, Commit-reads, Looks-grow, adds-of, Survives, Cuts-survive}
 use Rattle.meaning.proofs.Base.{Clean, all-front}
 use Rattle.lasting.proofs.Steps.{Steps}
@@ -142,7 +142,7 @@ module _ {ceiling : ℕ} {b : List ℕ} {s : Section} (d : Access) (x : Drafting
                 (λ h. not-raised token guid (applied mid before) w t h cut) mark
         ]
 
-    pub survives-here : (c : Call) → Fit c → (before later : List Write) (w : Write) → writes here c ≡ before ++ (w ∷ later)
+    survives-here : (c : Call) → Fit c → (before later : List Write) (w : Write) → writes here c ≡ before ++ (w ∷ later)
         → (t : List ℕ) (cut : Cut (applied mid before) w t) (mark : ℕ) → Survives here (s .header .count) ceiling c cut mark
     unfolding writes
     survives-here c fit = survives c (effect here c) (does-here d x c fit)

@@ -1,13 +1,12 @@
 -- Every write of a draft over an accepted file, and every write of its commit but the header's, goes to the file's free zone.
 -- Assumes nothing.
-use Prim.Native.Nat.{ℕ, _+_, _-_, _*_, _<_, _≤_}
+use Prim.Native.Nat.{ℕ, _-_, _≤_}
 use mathlib.Core.Path.{_≡_, refl, sym, ap, _∙_}
 use mathlib.Core.Bool.{true, cond}
-use mathlib.Core.List.{List, [], _∷_, _++_, map}
+use mathlib.Core.List.{List, [], _∷_, _++_}
 use native.Mathlib.Omega.{arith}
 use lib.Dec.{ltb}
 use lib.ListN.{length, take, drop}
-use Rattle.std.specs.shelf.Lists.{All}
 use Rattle.std.proofs.shelf.Lists.{append-nil, append-assoc, length-take, length-drop}
 use Rattle.std.proofs.shelf.Tests.{lt-ltb}
 use Rattle.std.proofs.shelf.Ways.{tells}
@@ -18,7 +17,7 @@ use Rattle.model.specs.Bytes.{put, behind}
 use Rattle.model.specs.Faults.{done}
 use Rattle.model.specs.References.{span, span-bytes}
 use Rattle.model.specs.LogFragments.{entry-bytes, entries-in, entry-place, log-next, new-log-fragment}
-use Rattle.model.specs.Section.{NodeList, Section}
+use Rattle.model.specs.Section.{Section}
 use Rattle.model.specs.Opened.{opened}
 use Rattle.model.specs.Layouts.{Add, Layout, tail-of, blank}
 use Rattle.model.specs.Saving.{at-end, plan, planned, laid, layout}
@@ -27,18 +26,13 @@ use Rattle.model.specs.Calls.{add-checks}
 use Rattle.model.specs.Journal.{Fit-add}
 use Rattle.model.specs.Laws.{last-fragment, in-log, Writes-free, Done-adds, add-writes, Drafts-write-free}
 use Rattle.meaning.proofs.Base.{Clean}
-use Rattle.meaning.proofs.Members.{In, all-from-in}
-use Rattle.lasting.proofs.Places.{meant, List-end, Log-end, list-end, log-end}
+use Rattle.meaning.proofs.Members.{all-from-in}
+use Rattle.lasting.proofs.Places.{meant, Log-end, list-end, log-end}
 use Rattle.lasting.proofs.Sizes.{length-span-bytes, length-entry-bytes, piece-ends, span-bytes-bytes, entry-bytes-bytes, log-fragment-bytes}
 use Rattle.lasting.proofs.Steps.{Steps, steps-append, steps-none, steps-at-end, steps-within}
-use Rattle.lasting.proofs.Adds.{Grown, old, Tail-held, Draft-held, Kept, kept-planned}
+use Rattle.lasting.proofs.Adds.{old, Tail-held, Draft-held, Kept, kept-planned}
 
 -- ---- one add more at the end of a draft
-
-pub laid-push : (y : Layout) (adds : List Add) (a : Add) → laid y (adds ++ (a ∷ [])) ≡ planned (laid y adds) a .layout
-unfolding laid
-laid-push y [] a = refl
-laid-push y (x ∷ xs) a = laid-push (planned y x .layout) xs a
 
 pub writes-push : (y : Layout) (adds : List Add) (a : Add) → add-writes y (adds ++ (a ∷ [])) ≡ add-writes y adds ++ planned (laid y adds) a .writes
 unfolding laid

@@ -1,9 +1,9 @@
 -- The footprint of an accepted file and its free zone share no byte.
 -- Assumes nothing.
-use Prim.Native.Nat.{ℕ, _+_, _-_, _*_, _<_, _≤_}
+use Prim.Native.Nat.{ℕ, _+_, _*_, _<_, _≤_}
 use mathlib.Core.Path.{_≡_, sym, _∙_, subst}
 use mathlib.Core.Logic.{_⊎_, inl, inr}
-use mathlib.Core.List.{List, [], _∷_, _++_}
+use mathlib.Core.List.{List, [], _∷_}
 use native.Mathlib.Omega.{arith}
 use Rattle.std.specs.shelf.Lists.{All}
 use Rattle.model.specs.declared.types.Span.{Span}
@@ -11,11 +11,11 @@ use Rattle.model.specs.References.{end-of}
 use Rattle.model.specs.Headers.{header-span}
 use Rattle.model.specs.Section.{NodeList, Section, list-fragments, fragments-of}
 use Rattle.model.specs.Means.{Within, Apart, Pairwise, data-spans, Means}
-use Rattle.model.specs.Laws.{but-last, last-fragment, list-footprint, log-footprint, Footprint, in-header, in-log, in-list, in-data, Free, past-end, Free-apart}
+use Rattle.model.specs.Laws.{but-last, last-fragment, list-footprint, log-footprint, Footprint, in-header, in-log, in-list, in-data, past-end, Free-apart}
 use Rattle.meaning.proofs.Base.{Cross, pairs-split}
 use Rattle.meaning.proofs.Members.{In, in-from-has, in-left, in-flat, all-in}
 use Rattle.lasting.proofs.Chains.{in-but-last, last-apart}
-use Rattle.lasting.proofs.Places.{meant, in-fragments, list-inside, log-inside, List-end, Log-end, list-end, log-end}
+use Rattle.lasting.proofs.Places.{meant, in-fragments, list-inside, log-inside, list-end, log-end}
 
 -- ---- fragments that are apart
 

@@ -1,36 +1,28 @@
 -- Where the last fragments of an accepted file stand, and what is used of them.
 -- Assumes nothing.
 use Prim.Native.Nat.{ℕ, _<_, _≤_}
-use mathlib.Core.Path.{_≡_, ap}
-use mathlib.Core.List.{List, [], _∷_, _++_, map}
+use mathlib.Core.Path.{_≡_}
+use mathlib.Core.List.{List, [], _∷_}
 use native.Mathlib.Omega.{arith}
 use lib.ListN.{length}
 use Rattle.std.specs.shelf.Lists.{All}
 use Rattle.model.specs.declared.types.Span.{Span}
 use Rattle.model.specs.Faults.{done}
-use Rattle.model.specs.References.{span, end-of}
-use Rattle.model.specs.Headers.{header-span}
+use Rattle.model.specs.References.{end-of}
 use Rattle.model.specs.Nodes.{Node}
 use Rattle.model.specs.ListFragments.{nodes-from, nodes-to}
 use Rattle.model.specs.LogFragments.{entries-in}
 use Rattle.model.specs.Section.{NodeList, Section, list-fragments, fragments-of}
 use Rattle.model.specs.Opened.{opened}
-use Rattle.model.specs.Means.{Apart, Inside, Nodes, Spread, within, across, Stands, Means}
+use Rattle.model.specs.Means.{Inside, Spread, within, across, Stands, Means}
 use Rattle.model.specs.Laws.{last-fragment}
-use Rattle.meaning.proofs.Base.{all-front}
-use Rattle.meaning.proofs.Members.{In, in-left, in-right, in-flat, all-in}
+use Rattle.meaning.proofs.Members.{In, in-right, in-flat, all-in}
 use Rattle.meaning.proofs.Local.{nodes-inside}
 use Rattle.meaning.proofs.OpensMeans.{opens-means}
 use Rattle.lasting.proofs.Chains.{in-last-fragment}
 
 pub meant : (b : List ℕ) (s : Section) → opened b ≡ done s → Means b s
 meant b s e = opens-means b s e .0
-
--- a fragment that is apart from the header stands behind it
-pub behind-header : (f : Span) → 1 ≤ f .size → Apart header-span f → 1024 ≤ f .start
-behind-header f z a =
-    let no-less : f .start < 1024 → ⊥ = λ l. a (f .start) (omega arith, omega arith) (omega arith, omega arith) in
-    omega arith
 
 spread-some : (b : List ℕ) {fs : List Span} {ns : List Node} {q : ℕ} → Spread b fs ns q → 1 ≤ length fs
 spread-some b (within h) = omega arith
@@ -45,7 +37,6 @@ spread-ends b end a (across ns ms p h o e t u) = spread-ends b end (a .1) t
 
 pub record List-end (s : Section) (l : NodeList) : Type 0 where
   pub last : In (last-fragment (l .fragments)) (l .fragments)
-  pub from : 1024 ≤ last-fragment (l .fragments) .start
   pub size : 36 ≤ last-fragment (l .fragments) .size
   pub to : end-of (last-fragment (l .fragments)) ≤ s .header .end
   pub free-from : nodes-from (last-fragment (l .fragments)) < l .free
@@ -53,19 +44,14 @@ pub record List-end (s : Section) (l : NodeList) : Type 0 where
 
 pub record Log-end (s : Section) : Type 0 where
   pub last : In (last-fragment (s .log .fragments)) (s .log .fragments)
-  pub from : 1024 ≤ last-fragment (s .log .fragments) .start
   pub size : 12 ≤ last-fragment (s .log .fragments) .size
   pub to : end-of (last-fragment (s .log .fragments)) ≤ s .header .end
-  pub used-from : 1 ≤ s .log .used
   pub used-to : s .log .used ≤ entries-in (last-fragment (s .log .fragments) .size)
 
 pub in-fragments : (s : Section) (l : NodeList) (f : Span) → In l (s .lists) → In f (l .fragments) → In f (fragments-of s)
 in-fragments s l f i j = in-right (s .log .fragments) (list-fragments (s .lists)) f (in-flat (λ (l : NodeList). l .fragments) (s .lists) l f i j)
 
 module _ {b : List ℕ} {s : Section} (m : Means b s) where
-  header-apart : (f : Span) → In f (fragments-of s) → Apart header-span f
-  header-apart f i = all-in (Apart header-span) (fragments-of s) f (m .fragments-apart .0) i
-
   pub list-inside : (l : NodeList) (f : Span) → In l (s .lists) → In f (l .fragments) → Inside 36 (s .header .end) f
   list-inside l f i j = all-in (Inside 36 (s .header .end)) (l .fragments) f (all-in (Stands b (s .header) (s .log)) (s .lists) l (m .lists) i .part .inside) j
 
@@ -80,7 +66,6 @@ module _ {b : List ℕ} {s : Section} (m : Means b s) where
       let (x, y) = list-inside l f i j in
       record {
         last = j;
-        from = behind-header f (omega arith) (header-apart f (in-fragments s l f i j));
         size = x;
         to = y;
         free-from = st .ends;
@@ -96,10 +81,8 @@ module _ {b : List ℕ} {s : Section} (m : Means b s) where
       let (x, y) = log-inside f j in
       record {
         last = j;
-        from = behind-header f (omega arith) (header-apart f (in-left (s .log .fragments) (list-fragments (s .lists)) f j));
         size = x;
         to = y;
-        used-from = u;
         used-to = p;
       }
     where

@@ -1,6 +1,6 @@
 -- What writes leave of a row: its length, the bytes outside them, and that it stays a row of bytes.
 -- Assumes nothing.
-use Prim.Native.Nat.{ℕ, zero, suc, _+_, _/_, _<_, _≤_, max}
+use Prim.Native.Nat.{ℕ, _+_, _<_, _≤_, max}
 use mathlib.Core.Path.{_≡_, refl, ap, _∙_}
 use mathlib.Core.Logic.{_⊎_, inl, inr}
 use mathlib.Core.List.{List, [], _∷_, _++_}
@@ -31,7 +31,7 @@ written-above b p new i h l = search (needs, places)
 abbrev pub Outside : ℕ → Write → Type 0
 Outside i w = (i < w .place) ⊎ (behind w ≤ i)
 
-pub written-outside : (b : List ℕ) (w : Write) (i : ℕ) → w .place ≤ length b → Outside i w → getD (written b (w .place) (w .new)) i 0 ≡ getD b i 0
+written-outside : (b : List ℕ) (w : Write) (i : ℕ) → w .place ≤ length b → Outside i w → getD (written b (w .place) (w .new)) i 0 ≡ getD b i 0
 written-outside b w i h (inl x) = written-below b (w .place) (w .new) i h x
 written-outside b w i h (inr x) = written-above b (w .place) (w .new) i h x
 

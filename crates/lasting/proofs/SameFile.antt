@@ -1,24 +1,22 @@
 -- A row that has the bytes of an accepted file, on its footprint, opens as that file.
 -- Assumes nothing.
-use Prim.Native.Nat.{ℕ, zero, suc, _+_, _-_, _*_, _<_, _≤_}
-use mathlib.Core.Path.{_≡_, refl, sym, ap, _∙_, subst}
-use mathlib.Core.List.{List, [], _∷_, _++_}
+use Prim.Native.Nat.{ℕ, zero, suc, _+_, _-_, _*_, _≤_}
+use mathlib.Core.Path.{_≡_, refl, sym, _∙_}
+use mathlib.Core.List.{List, [], _∷_}
 use native.Mathlib.Omega.{arith}
 use lib.ListN.{length, getD}
 use Rattle.std.specs.shelf.Lists.{All}
 use Rattle.model.specs.declared.types.Span.{Span}
-use Rattle.model.specs.declared.types.Entry.{Entry}
-use Rattle.model.specs.Bytes.{le, piece, Same}
+use Rattle.model.specs.Bytes.{piece, Same}
 use Rattle.model.specs.Faults.{done}
 use Rattle.model.specs.References.{span, end-of, span-at}
 use Rattle.model.specs.Headers.{Header, header-at}
-use Rattle.model.specs.ListFragments.{nodes-from, owner, sequence}
 use Rattle.model.specs.LogFragments.{entry-at, entries-in, entry-place, log-next}
 use Rattle.model.specs.Section.{Log, NodeList, Section}
 use Rattle.model.specs.Opened.{opened}
-use Rattle.model.specs.Means.{Inside, Chain, Headed, entries-of, log-row, Log-part, Logs, Marked, Numbered, List-part, Stands, Means, In-order}
+use Rattle.model.specs.Means.{Inside, Chain, Headed, entries-of, log-row, Logs, Marked, Numbered, Stands, Means}
 use Rattle.model.specs.Laws.{but-last, last-fragment, list-footprint, log-footprint, Footprint, in-header, in-log, in-list}
-use Rattle.meaning.proofs.Members.{In, has-from-in, all-in, all-from-in}
+use Rattle.meaning.proofs.Members.{has-from-in, all-in, all-from-in}
 use Rattle.meaning.proofs.Frames.{le-in, piece-in}
 use Rattle.meaning.proofs.Local.{Agree, span-local, spread-local}
 use Rattle.meaning.proofs.MeantOpens.{means-opens-in-order}
@@ -26,7 +24,7 @@ use Rattle.meaning.proofs.OpensMeans.{opens-means}
 use Rattle.lasting.proofs.Places.{List-end, list-end}
 
 -- two rows have the same bytes in a range
-abbrev pub Alike : List ℕ → List ℕ → Span → Type 0
+abbrev Alike : List ℕ → List ℕ → Span → Type 0
 Alike b c r = Same b c (r .start) (end-of r)
 
 module _ (b c : List ℕ) where

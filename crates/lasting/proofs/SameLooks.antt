@@ -1,23 +1,22 @@
 -- Looks, and what a list holds, read nothing but the footprint: the law that only the footprint counts.
 -- Assumes nothing.
 use Prim.Native.Nat.{ℕ, zero, suc, _+_, _≤_}
-use mathlib.Core.Path.{_≡_, refl, sym, ap, subst, _∙_}
+use mathlib.Core.Path.{_≡_, refl, sym, ap, subst}
 use mathlib.Core.Logic.{_⊎_, inl, inr}
-use mathlib.Core.Bool.{true, false, not, _&&_, _||_}
+use mathlib.Core.Bool.{true, _&&_, _||_}
 use mathlib.Core.List.{List, [], _∷_, map}
 use native.Mathlib.Nat.{add-zero}
 use native.Mathlib.Omega.{arith}
-use lib.Dec.{eqb, ltb, leb}
+use lib.Dec.{eqb, ltb}
 use lib.ListN.{length, getD}
 use Rattle.std.proofs.shelf.Tests.{cases-bool, or-parts, ltb-false}
 use Rattle.std.proofs.shelf.Ways.{tells}
 use Rattle.model.specs.declared.types.Span.{Span}
 use Rattle.model.specs.Bytes.{piece, Same}
-use Rattle.model.specs.Faults.{fault, Outcome, done, refused, unless, then}
+use Rattle.model.specs.Faults.{fault, Outcome, done, refused, then}
 use Rattle.model.specs.References.{end-of, present}
 use Rattle.model.specs.Nodes.{Node, referring}
-use Rattle.model.specs.Section.{NodeList, Section, count-at}
-use Rattle.model.specs.OpenedLists.{taken}
+use Rattle.model.specs.Section.{NodeList, Section}
 use Rattle.model.specs.Opened.{opened}
 use Rattle.model.specs.Means.{data-spans, Means}
 use Rattle.model.specs.Looks.{Look, node-look, data-look, alike, bytes, no-node, nodes-of, node-of, reference-of, data-of, seen-in, answered, look}

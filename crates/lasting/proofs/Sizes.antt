@@ -9,7 +9,7 @@ use Rattle.std.proofs.shelf.Lists.{length-append, length-replicate}
 use Rattle.std.proofs.shelf.Elements.{all-append}
 use Rattle.model.specs.declared.types.Span.{Span}
 use Rattle.model.specs.declared.types.Entry.{Entry}
-use Rattle.model.specs.Bytes.{digits, Write, behind, Bytes}
+use Rattle.model.specs.Bytes.{digits, behind, Bytes}
 use Rattle.model.specs.References.{nil, span-bytes}
 use Rattle.model.specs.Nodes.{node-head, plain-node, referring-node}
 use Rattle.model.specs.ListFragments.{first-mark, last-mark, new-fragment}
@@ -47,7 +47,7 @@ piece-ends y new = simp (length-append, length-replicate) (omega arith)
 
 -- ---- bytes
 
-pub bytes-join : (xs ys : List ℕ) → Bytes xs → Bytes ys → Bytes (xs ++ ys)
+bytes-join : (xs ys : List ℕ) → Bytes xs → Bytes ys → Bytes (xs ++ ys)
 bytes-join xs ys a c = all-append (λ x. x < 256) xs ys a c
 
 pub digits-bytes : (n v : ℕ) → Bytes (digits n v)
@@ -55,7 +55,7 @@ unfolding digits
 digits-bytes zero v = tt
 digits-bytes (suc n) v = (omega arith, digits-bytes n (v / 256))
 
-pub zeros-bytes : (n : ℕ) → Bytes (replicate n 0)
+zeros-bytes : (n : ℕ) → Bytes (replicate n 0)
 zeros-bytes zero = tt
 zeros-bytes (suc n) = (omega arith, zeros-bytes n)
 

@@ -11,11 +11,11 @@ use Rattle.model.specs.Bytes.{applied}
 use Rattle.model.specs.Faults.{Outcome}
 use Rattle.model.specs.Section.{Section}
 use Rattle.model.specs.Looks.{Look}
-use Rattle.model.specs.Layouts.{Add, blank}
+use Rattle.model.specs.Layouts.{Add}
 use Rattle.model.specs.Calls.{Access, State, Call, looking, saw, Effect, effect, answer-of, writes-of, access-after, answer, writes, after}
 use Rattle.model.specs.Journal.{Fit, commits, Look-alike}
 use Rattle.model.specs.Laws.{Taken, Commit-reads, Looks-grow, adds-of, Sound, Steps-sound}
-use Rattle.lasting.specs.Uncommitted.{after-all, Uncommitted, Drafts-unseen}
+use Rattle.lasting.specs.Uncommitted.{Drafts-unseen}
 use Rattle.lasting.proofs.Effects.{open-state, Does, stays, rests, grows, ends, does}
 use Rattle.lasting.proofs.Opening.{sees}
 use Rattle.lasting.proofs.InDraft.{drafted-bytes, Drafting, committed-bytes, mid-same, rested, next-taken, next-same, next-is, next-drafting, commit-taken, committed-drafting}
@@ -57,7 +57,7 @@ module _ {ceiling : ℕ} {b : List ℕ} {s : Section} (d : Access) (x : Drafting
   takes c o (grows token a y i fit p) = next-taken x a fit p
   takes c o (ends token guid i j p) = commit-taken x guid i j p
 
-  pub takes-here : (c : Call) → Fit c → Taken (length mid) ceiling (writes here c)
+  takes-here : (c : Call) → Fit c → Taken (length mid) ceiling (writes here c)
   unfolding writes
   takes-here c fit = takes c (effect here c) (does-here c fit)
 
@@ -90,7 +90,7 @@ module _ {ceiling : ℕ} {b : List ℕ} {s : Section} (d : Access) (x : Drafting
       , λ l. sees ceiling _ then-d l ∙ ap saw (next-same x a fit p .looks l) ∙ sym (sees ceiling mid d l))
   quiet c o (ends token guid i j p) q = absurd (omega arith)
 
-  pub quiet-here : (c : Call) → Fit c → commits (answer here c) ≡ 0
+  quiet-here : (c : Call) → Fit c → commits (answer here c) ≡ 0
       → ((n : ℕ) → s .header .count ≡ n → Sound (after here c) n ceiling) × ((l : Look) → answer (after here c) (looking l) ≡ answer here (looking l))
   unfolding answer after writes
   quiet-here c fit q = quiet c (effect here c) (does-here c fit) q
@@ -117,7 +117,7 @@ module _ {ceiling : ℕ} {b : List ℕ} {s : Section} (d : Access) (x : Drafting
             ∙ ap saw (grow b ceiling s adds guid (x .are-bytes) i j (x .opens) (x .dones) p l (omega arith) (omega arith) ∙ sym (mid-same x .looks l))
             ∙ sym (sees ceiling mid d l))
 
-    pub steps-here : (c : Call) → Fit c
+    steps-here : (c : Call) → Fit c
         → Sound (after here c) (s .header .count + commits (answer here c)) ceiling × ((k : ℕ) → 1 ≤ k → k ≤ s .header .count → Look-alike k (after here c) here)
     unfolding answer after writes
     steps-here c fit = stepped c (effect here c) (does-here c fit)

@@ -1,8 +1,8 @@
 -- Writes to the free zone of an accepted file, done or cut, leave the finished file as it was.
 -- Assumes nothing.
-use Prim.Native.Nat.{ℕ, _<_, _≤_, max}
+use Prim.Native.Nat.{ℕ, _≤_, max}
 use mathlib.Core.Path.{_≡_, _∙_}
-use mathlib.Core.Logic.{_⊎_, inl, inr}
+use mathlib.Core.Logic.{inl, inr}
 use mathlib.Core.List.{List, [], _∷_, _++_}
 use native.Mathlib.Omega.{arith}
 use lib.ListN.{length, getD}
@@ -20,7 +20,7 @@ use Rattle.meaning.proofs.Base.{all-front}
 use Rattle.lasting.proofs.Places.{meant}
 use Rattle.lasting.proofs.SameLooks.{local, held-same}
 use Rattle.lasting.proofs.FreeApart.{free-apart}
-use Rattle.lasting.proofs.Rows.{Outside, length-after, length-rises, length-applied, taken-front, applied-outside}
+use Rattle.lasting.proofs.Rows.{Outside, length-rises, length-applied, taken-front, applied-outside}
 use Rattle.lasting.proofs.Steps.{Steps}
 
 -- t holds the same finished file as b
