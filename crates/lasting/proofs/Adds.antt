@@ -89,53 +89,56 @@ grown-more u (fresh e) f h = fresh (rw f e)
 -- the old fragment's terminator and next reference
 module _ {s : Section} {a b : ℕ} {t : Tail} (x : Tail-held s a t) (h : a ≤ b) where
   steps-close : Steps s b b (cond (leb (t .free + 4) (nodes-to (t .fragment))) (put (t .free) terminator ∷ []) [])
-  steps-close = cond-both (leb (t .free + 4) (nodes-to (t .fragment))) (put (t .free) terminator ∷ []) [] (Steps s b b)
-      (λ e.
-        let n = length-digits 4 0x800010FF in
-        let k = leb-true (t .free + 4) (nodes-to (t .fragment)) e in
-        steps-within (t .free) terminator (omega arith) (digits-bytes 4 0x800010FF)
-          (λ i u v. tail-free (x .grown) (x .free-from) i u (omega arith)))
-      (λ e. steps-none)
+  steps-close =
+      let n = length-digits 4 0x800010FF in
+      let room : leb (t .free + 4) (nodes-to (t .fragment)) ≡ true → Steps s b b (put (t .free) terminator ∷ []) = λ e.
+          let k = leb-true (t .free + 4) (nodes-to (t .fragment)) e in
+          steps-within (t .free) terminator (omega arith) (digits-bytes 4 0x800010FF) (λ i u v. tail-free (x .grown) (x .free-from) i u (omega arith)) in
+      cond-both (leb (t .free + 4) (nodes-to (t .fragment))) (put (t .free) terminator ∷ []) [] (Steps s b b) room (λ e. steps-none)
 
   steps-next : (r : Span) → Steps s b b (put (nodes-to (t .fragment)) (span-bytes r) ∷ [])
   steps-next r =
       let n = length-span-bytes r in
-      steps-within (nodes-to (t .fragment)) (span-bytes r) (omega arith) (span-bytes-bytes r)
-        (λ i u v. tail-free (x .grown) (x .free-from) i (omega arith) (omega arith))
+      let free : (i : ℕ) → nodes-to (t .fragment) ≤ i → i < nodes-to (t .fragment) + length (span-bytes r) → Free s i
+      = λ i u v. tail-free (x .grown) (x .free-from) i (omega arith) (omega arith) in
+      steps-within (nodes-to (t .fragment)) (span-bytes r) (omega arith) (span-bytes-bytes r) free
+
+module _ {s : Section} {y : Layout} (d : Draft-held s y) (id : ℕ) (new : List ℕ) (bytes : Bytes new) (t : Tail) (x : Tail-held s (y .end) t) where
+  -- behind the last node
+  kept-fitting : t .free + length new ≤ nodes-to (t .fragment) → Kept s y (fitting y id new t)
+  kept-fitting k =
+      let u : Tail = tail id (t .fragment) (t .number) (t .free + length new) (t .count + 1) in
+      let held : Tail-held s (y .end) u
+      = record { grown = grown-more u (x .grown) refl (omega arith); size = x .size; to = x .to; free-from = omega arith; free-to = omega arith } in
+      record {
+        held = record { end = d .end; tails = with-held (Tail-held s (y .end)) u (y .tails) held (d .tails) };
+        steps = steps-within (t .free) new (omega arith) bytes (λ i u v. tail-free (x .grown) (x .free-from) i u (omega arith));
+      }
+
+  -- in a new fragment
+  kept-spilling : length new ≤ 988 → Kept s y (spilling y id new t)
+  kept-spilling small =
+      let f = span (y .end) 1024 in
+      let new-piece = new-fragment id (t .number + 1) new in
+      let z = length-new-fragment id (t .number + 1) new small in
+      let p = piece-ends y new-piece in
+      let end = behind (at-end y new-piece) in
+      let q : y .end + 1024 ≤ end = omega arith in
+      let u : Tail = tail id f (t .number + 1) (nodes-from f + length new) (t .count + 1) in
+      let held : Tail-held s end u = record { grown = fresh (d .end); size = omega arith; to = q; free-from = omega arith; free-to = omega arith } in
+      let close : Steps s end end _ = steps-append (steps-close x (omega arith)) (steps-next x (omega arith) f) in
+      record {
+        held = record { end = omega arith; tails = with-held (Tail-held s end) u (y .tails) held (tails-later s (y .end) end (y .tails) (omega arith) (d .tails)) };
+        steps = steps-append (steps-at-end y new-piece (d .end) (fragment-bytes id (t .number + 1) new bytes)) close;
+      }
 
 kept-node : {s : Section} {y : Layout} (id : ℕ) (new : List ℕ) → Draft-held s y → member id (map (λ t. t .id) (y .tails)) ≡ true → length new ≤ 988 → Bytes new
     → Kept s y (with-node y id new)
 kept-node {s} {y} id new d m small bytes =
     let t = find-tail (y .tails) id in
-    let x : Tail-held s (y .end) t = find-held (Tail-held s (y .end)) (y .tails) id (d .tails) m in
-    cond-both (leb (t .free + length new) (nodes-to (t .fragment))) (fitting y id new t) (spilling y id new t) (Kept s y)
-      (λ e.
-        let k = leb-true (t .free + length new) (nodes-to (t .fragment)) e in
-        record {
-          held = record {
-            end = d .end;
-            tails = with-held (Tail-held s (y .end)) _ (y .tails)
-              (record { grown = grown-more _ (x .grown) refl (omega arith); size = x .size; to = x .to; free-from = omega arith; free-to = omega arith })
-              (d .tails);
-          };
-          steps = steps-within (t .free) new (omega arith) bytes (λ i u v. tail-free (x .grown) (x .free-from) i u (omega arith));
-        })
-      (λ e.
-        let fresh-span = span (y .end) 1024 in
-        let piece = new-fragment id (t .number + 1) new in
-        let z = length-new-fragment id (t .number + 1) new small in
-        let p = piece-ends y piece in
-        let q : y .end + 1024 ≤ behind (at-end y piece) = omega arith in
-        record {
-          held = record {
-            end = omega arith;
-            tails = with-held (Tail-held s _) _ (y .tails)
-              (record { grown = fresh (d .end); size = omega arith; to = q; free-from = omega arith; free-to = omega arith })
-              (tails-later s (y .end) _ (y .tails) (omega arith) (d .tails));
-          };
-          steps = steps-append (steps-at-end y piece (d .end) (fragment-bytes id (t .number + 1) new bytes))
-            (steps-append (steps-close x (omega arith)) (steps-next x (omega arith) fresh-span));
-        })
+    let x = find-held (Tail-held s (y .end)) (y .tails) id (d .tails) m in
+    let fits = λ (e : leb (t .free + length new) (nodes-to (t .fragment)) ≡ true). kept-fitting d id new bytes t x (leb-true (t .free + length new) (nodes-to (t .fragment)) e) in
+    cond-both (leb (t .free + length new) (nodes-to (t .fragment))) (fitting y id new t) (spilling y id new t) (Kept s y) fits (λ e. kept-spilling d id new bytes t x small)
 
 -- ---- adds
 
@@ -151,7 +154,7 @@ held-list : {s : Section} {y : Layout} (parent made end size : ℕ) → Draft-he
 held-list {s} {y} parent made end size d small h = record {
   end = omega arith;
   tails = all-append (Tail-held s end) (y .tails) _ (tails-later s (y .end) end (y .tails) (omega arith) (d .tails))
-    (record { grown = fresh (d .end); size = omega arith; to = h; free-from = omega arith; free-to = omega arith }, tt);
+      (record { grown = fresh (d .end); size = omega arith; to = h; free-from = omega arith; free-to = omega arith }, tt);
 }
 
 -- ADD: one that passes its checks keeps what is known of the draft, and writes to the free zone
@@ -165,8 +168,8 @@ kept-planned {s} {y} ceiling (with-data list id payload content) d fit p =
     let k : 16 + length payload ≤ 988 = grind (arith, tells) in
     let q = piece-ends y content in
     kept-after (steps-at-end y content (d .end) (fit .1))
-      (kept-node list (referring-node id 1 r payload) (held-later _ d (omega arith)) (grind (arith, tells)) (omega (arith, length-referring id 1 r payload))
-        (referring-bytes id 1 r payload (fit .0)))
+    (kept-node list (referring-node id 1 r payload) (held-later _ d (omega arith)) (grind (arith, tells)) (omega (arith, length-referring id 1 r payload))
+    (referring-bytes id 1 r payload (fit .0)))
 kept-planned {s} {y} ceiling (branch list id payload first-id first-payload) d fit p =
     let r = span (y .end) 1024 in
     let made = y .highest + 1 in
@@ -178,5 +181,5 @@ kept-planned {s} {y} ceiling (branch list id payload first-id first-payload) d f
     let q = piece-ends y (new-fragment made 0 first) in
     let m : member list (map (λ t. t .id) (y .tails)) ≡ true = grind (arith, tells) in
     kept-after (steps-at-end y (new-fragment made 0 first) (d .end) (fragment-bytes made 0 first (plain-bytes first-id first-payload (fit .1))))
-      (kept-node list (referring-node id 2 r payload) (held-list list made _ (length first) d g (omega arith)) (member-append list (y .tails) _ m)
-        (omega (arith, length-referring id 2 r payload)) (referring-bytes id 2 r payload (fit .0)))
+    (kept-node list (referring-node id 2 r payload) (held-list list made _ (length first) d g (omega arith)) (member-append list (y .tails) _ m)
+    (omega (arith, length-referring id 2 r payload)) (referring-bytes id 2 r payload (fit .0)))

@@ -112,10 +112,10 @@ module _ {ceiling : ℕ} {b : List ℕ} {s : Section} (d : Access) (x : Drafting
             opens = opened-answer t (k .section) o ceiling mark;
             count = k .count ∙ ap (λ n. s .header .count + n) (sym r);
             looks = λ i one h. looks-here t (k .section) o mark i (λ l q.
-              ap (λ y. look y l) e ∙ grow b ceiling s adds guid (x .are-bytes) gb gl (x .opens) (x .dones) p l (omega arith) (omega arith) ∙ sym (mid-same x .looks l));
+                ap (λ y. look y l) e ∙ grow b ceiling s adds guid (x .are-bytes) gb gl (x .opens) (x .dones) p l (omega arith) (omega arith) ∙ sym (mid-same x .looks l));
             grown = λ q id.
-              ap (λ y. held y id) e ∙ k .grown id ∙ ap (λ ns. ns ++ saved (blank s) adds id) (sym (mid-same x .holds id))
-              ∙ ap (λ ns. held mid id ++ ns) (sym (drafted-is ceiling mid s (d .mark) (d .begins) (d .draft) id (mid-same x .opens)));
+                ap (λ y. held y id) e ∙ k .grown id ∙ ap (λ ns. ns ++ saved (blank s) adds id) (sym (mid-same x .holds id))
+                ∙ ap (λ ns. held mid id ++ ns) (sym (drafted-is ceiling mid s (d .mark) (d .begins) (d .draft) id (mid-same x .opens)));
           }
 
       -- a cut in the header's write
@@ -124,7 +124,7 @@ module _ {ceiling : ℕ} {b : List ℕ} {s : Section} (d : Access) (x : Drafting
       cut-header z w t q r (old-header k) mark = unharmed (commit token guid) (old-header k) refl (subst (λ y. Same-file mid y s) (sym q) (logs-same x)) mark
       cut-header z w t q r (new-header k) mark =
           let e : written z (w .place) (w .new) ≡ committed-bytes b s adds guid =
-              ap (λ y. written y (w .place) (w .new)) q ∙ ap (λ (v : Write). written (applied mid (log-writes s adds)) (v .place) (v .new)) r ∙ sym (committed-is x guid) in
+          ap (λ y. written y (w .place) (w .new)) q ∙ ap (λ (v : Write). written (applied mid (log-writes s adds)) (v .place) (v .new)) r ∙ sym (committed-is x guid) in
           grown-by (commit token guid) (new-header k) refl e mark
       cut-header z w t q r (torn k c d e f) mark = absurd (k (subst Writes-header (sym r) (last-is-header x guid gb gl)))
 
@@ -139,7 +139,7 @@ module _ {ceiling : ℕ} {b : List ℕ} {s : Section} (d : Access) (x : Drafting
           | inl (q, r) ↦ cut-header token guid gb gl p (applied mid before) w t (ap (applied mid) q) r cut mark
           | inr (rest, q) ↦
               cut-step (commit token guid) (logged s (layout s adds) .end) (log-writes s adds) before rest w (logs-step x) q t cut
-                (λ h. not-raised token guid (applied mid before) w t h cut) mark
+              (λ h. not-raised token guid (applied mid before) w t h cut) mark
         ]
 
     survives-here : (c : Call) → Fit c → (before later : List Write) (w : Write) → writes here c ≡ before ++ (w ∷ later)
@@ -150,5 +150,5 @@ module _ {ceiling : ℕ} {b : List ℕ} {s : Section} (d : Access) (x : Drafting
 pub cuts-survive : Commit-reads → Looks-grow → Cuts-survive
 cuts-survive reads grow st n ceiling c k fit =
     of-sound (λ (st : State) m. (before later : List Write) (w : Write) → writes st c ≡ before ++ (w ∷ later)
-        → (t : List ℕ) (cut : Cut (applied (st .bytes) before) w t) (mark : ℕ) → Survives st m ceiling c cut mark) k
-      (survives-here (k .access) (sound-drafting k) reads grow c fit)
+    → (t : List ℕ) (cut : Cut (applied (st .bytes) before) w t) (mark : ℕ) → Survives st m ceiling c cut mark) k
+    (survives-here (k .access) (sound-drafting k) reads grow c fit)

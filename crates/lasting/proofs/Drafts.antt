@@ -64,7 +64,7 @@ last-log s = last-fragment (s .log .fragments)
 
 steps-rest : (s : Section) (y : Layout) (rest : List Entry) (r : Span) → Log-end s → s .header .end ≤ y .end
     → Steps s (y .end) (cond (ltb 0 (length rest)) (behind (at-end y (new-log-fragment rest))) (y .end))
-        (if-any rest (at-end y (new-log-fragment rest) ∷ put (log-next (last-log s)) (span-bytes r) ∷ []))
+    (if-any rest (at-end y (new-log-fragment rest) ∷ put (log-next (last-log s)) (span-bytes r) ∷ []))
 steps-rest s y [] r g h = steps-none
 steps-rest s y (e ∷ es) r g h =
     let size = g .size in
@@ -75,7 +75,7 @@ steps-rest s y (e ∷ es) r g h =
     let p = piece-ends y new in
     let k : ltb 0 (length (e ∷ es)) ≡ true = lt-ltb 0 (length (e ∷ es)) (omega arith) in
     rw k (steps-append (steps-at-end y new h (log-fragment-bytes (e ∷ es)))
-      (steps-within (log-next (last-log s)) (span-bytes r) (omega arith) (span-bytes-bytes r) (λ i u v. in-log (omega arith) (omega arith))))
+    (steps-within (log-next (last-log s)) (span-bytes r) (omega arith) (span-bytes-bytes r) (λ i u v. in-log (omega arith) (omega arith))))
 
 steps-fit : (s : Section) (a : ℕ) (fit : List Entry) → Log-end s → s .header .end ≤ a → length fit ≤ entries-in (last-log s .size) - s .log .used
     → Steps s a a (if-any fit (put (entry-place (last-log s) (s .log .used)) (entry-bytes fit) ∷ []))
@@ -103,9 +103,9 @@ module _ (b : List ℕ) (s : Section) (opens : opened b ≡ done s) where
   held-blank = record {
     end = omega arith;
     tails = all-map (Tail-held s (s .header .end)) tail-of (s .lists) (all-from-in (λ l. Tail-held s (s .header .end) (tail-of l)) (s .lists) (λ l i.
-      let e = list-end (meant b s opens) l i in
-      let from = e .free-from in
-      record { grown = old l i refl (omega arith); size = e .size; to = e .to; free-from = omega arith; free-to = e .free-to }));
+        let e = list-end (meant b s opens) l i in
+        let from = e .free-from in
+        record { grown = old l i refl (omega arith); size = e .size; to = e .to; free-from = omega arith; free-to = e .free-to }));
   }
 
   module _ (ceiling : ℕ) (adds : List Add) (dones : Done-adds ceiling (blank s) adds) where
@@ -125,4 +125,4 @@ module _ (b : List ℕ) (s : Section) (opens : opened b ≡ done s) where
 pub drafts-write-free : Drafts-write-free
 drafts-write-free b ceiling s adds bytes opens dones =
     all-append (Writes-free s) (add-writes (blank s) adds) (logged s (layout s adds) .writes)
-      (adds-step b s opens ceiling adds dones .free) (log-step b s opens ceiling adds dones .free)
+    (adds-step b s opens ceiling adds dones .free) (log-step b s opens ceiling adds dones .free)

@@ -41,15 +41,15 @@ pub data Does (ceiling : ℕ) (b : List ℕ) (s : Section) (d : Access) : Call �
   stays : {c : Call} {o : Outcome Effect} → commits (answer-of o) ≡ 0 → writes-of o ≡ [] → access-after (Some d) o ≡ Some d → Does ceiling b s d c o
   -- begin or abandon: then no add is done, and nothing is written
   rests : {c : Call} (a : Answer) (n : ℕ) (draft : Option (List Add)) → commits a ≡ 0 → adds-of draft ≡ []
-    → Does ceiling b s d c (done (record { answer = a; writes = []; access = access-of (d .mark) n draft }))
+      → Does ceiling b s d c (done (record { answer = a; writes = []; access = access-of (d .mark) n draft }))
   -- an add
   grows : (token : Draft) (a : Add) (x : Answer) → commits x ≡ 0 → Fit-add a → Clean (add-checks ceiling (layout s (adds-of (d .draft))) a)
-    → Does ceiling b s d (add token a)
-        (done (record { answer = x; writes = planned (layout s (adds-of (d .draft))) a .writes; access = access-of (d .mark) (d .begins) (Some (adds-of (d .draft) ++ (a ∷ []))) }))
+      → Does ceiling b s d (add token a)
+      (done (record { answer = x; writes = planned (layout s (adds-of (d .draft))) a .writes; access = access-of (d .mark) (d .begins) (Some (adds-of (d .draft) ++ (a ∷ []))) }))
   -- a commit
   ends : (token : Draft) (guid : List ℕ) → Bytes guid → length guid ≡ 16 → Clean (commit-checks ceiling s (adds-of (d .draft)) guid)
-    → Does ceiling b s d (commit token guid)
-        (done (record { answer = committed; writes = committing b s (adds-of (d .draft)) guid; access = access-of (d .mark) (d .begins) None }))
+      → Does ceiling b s d (commit token guid)
+      (done (record { answer = committed; writes = committing b s (adds-of (d .draft)) guid; access = access-of (d .mark) (d .begins) None }))
 
 not-committed : (y : Layout) (a : Add) → commits (add-answer y a) ≡ 0
 not-committed y (plain list id payload) = refl
@@ -72,7 +72,7 @@ module _ (ceiling : ℕ) (b : List ℕ) (s : Section) (opens : opened b ≡ done
   does-begin None =
       let e : Effect = record { answer = begun (record { mark = mark; number = begins + 1 }); writes = []; access = access-of mark (begins + 1) (Some []) } in
       unless-either ((leb (2 ^ 64) (begins + 1), saving 23) ∷ []) (done e) (Does ceiling b s (known None) begin) (refuses None begin)
-        (λ p. rests (begun (record { mark = mark; number = begins + 1 })) (begins + 1) (Some []) refl refl)
+      (λ p. rests (begun (record { mark = mark; number = begins + 1 })) (begins + 1) (Some []) refl refl)
 
   does-abandon : (draft : Option (List Add)) (token : Draft) → Does ceiling b s (known draft) (abandon token) (effect (open-state ceiling b (known draft)) (abandon token))
   unfolding foreign
@@ -80,7 +80,7 @@ module _ (ceiling : ℕ) (b : List ℕ) (s : Section) (opens : opened b ≡ done
   does-abandon (Some adds) token =
       let e : Effect = record { answer = abandoned; writes = []; access = access-of mark begins None } in
       unless-either (foreign token) (done e) (Does ceiling b s (known (Some adds)) (abandon token)) (refuses (Some adds) (abandon token))
-        (λ p. rests abandoned begins None refl refl)
+      (λ p. rests abandoned begins None refl refl)
 
   does-add : (draft : Option (List Add)) (token : Draft) (a : Add) → Fit-add a → Does ceiling b s (known draft) (add token a) (effect (open-state ceiling b (known draft)) (add token a))
   unfolding foreign
@@ -90,9 +90,9 @@ module _ (ceiling : ℕ) (b : List ℕ) (s : Section) (opens : opened b ≡ done
       let e : Section → Effect = λ x. record { answer = add-answer (planned (layout x adds) a .layout) a; writes = planned (layout x adds) a .writes; access = access-of mark begins (Some (adds ++ (a ∷ []))) } in
       let k : Section → Outcome Effect = λ x. unless (add-checks ceiling (layout x adds) a) (done (e x)) in
       unless-either (foreign token) (then (opened b) k) P (refuses (Some adds) (add token a)) (λ p.
-        subst (λ o. P (then o k)) (sym opens)
-          (unless-either (add-checks ceiling (layout s adds) a) (done (e s)) P (refuses (Some adds) (add token a)) (λ q.
-            grows token a (add-answer (planned (layout s adds) a .layout) a) (not-committed (planned (layout s adds) a .layout) a) fit q)))
+      subst (λ o. P (then o k)) (sym opens)
+      (unless-either (add-checks ceiling (layout s adds) a) (done (e s)) P (refuses (Some adds) (add token a)) (λ q.
+      grows token a (add-answer (planned (layout s adds) a .layout) a) (not-committed (planned (layout s adds) a .layout) a) fit q)))
 
   does-commit : (draft : Option (List Add)) (token : Draft) (guid : List ℕ) → Bytes guid → length guid ≡ 16
       → Does ceiling b s (known draft) (commit token guid) (effect (open-state ceiling b (known draft)) (commit token guid))
@@ -103,8 +103,8 @@ module _ (ceiling : ℕ) (b : List ℕ) (s : Section) (opens : opened b ≡ done
       let e : Section → Effect = λ x. record { answer = committed; writes = committing b x adds guid; access = access-of mark begins None } in
       let k : Section → Outcome Effect = λ x. unless (commit-checks ceiling x adds guid) (done (e x)) in
       unless-either (foreign token) (then (opened b) k) P (refuses (Some adds) (commit token guid)) (λ p.
-        subst (λ o. P (then o k)) (sym opens)
-          (unless-either (commit-checks ceiling s adds guid) (done (e s)) P (refuses (Some adds) (commit token guid)) (λ q. ends token guid x y q)))
+      subst (λ o. P (then o k)) (sym opens)
+      (unless-either (commit-checks ceiling s adds guid) (done (e s)) P (refuses (Some adds) (commit token guid)) (λ q. ends token guid x y q)))
 
   pub does : (draft : Option (List Add)) (c : Call) → Fit c → Does ceiling b s (known draft) c (effect (open-state ceiling b (known draft)) c)
   does draft (open-file m) fit = refuses draft (open-file m) (saving 14)

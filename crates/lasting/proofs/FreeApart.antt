@@ -30,15 +30,15 @@ one-list (n ∷ ns) l k f g i p x y u v a c =
     let (own, rest, across) = pairs-split Apart (n .fragments) (list-fragments ns) p in
     elim x [
       | inl d ↦ elim y [
-          | inl e ↦ sym d ∙ e
-          | inr j ↦ absurd (cross-in (n .fragments) (list-fragments ns) f g across (subst (λ (w : NodeList). In f (w .fragments)) (sym d) u)
-              (in-flat (λ (w : NodeList). w .fragments) ns k g j v) i a c)
-        ]
+        | inl e ↦ sym d ∙ e
+        | inr j ↦ absurd (cross-in (n .fragments) (list-fragments ns) f g across (subst (λ (w : NodeList). In f (w .fragments)) (sym d) u)
+            (in-flat (λ (w : NodeList). w .fragments) ns k g j v) i a c)
+      ]
       | inr j ↦ elim y [
-          | inl e ↦ absurd (cross-in (n .fragments) (list-fragments ns) g f across (subst (λ (w : NodeList). In g (w .fragments)) (sym e) v)
-              (in-flat (λ (w : NodeList). w .fragments) ns l f j u) i c a)
-          | inr h ↦ one-list ns l k f g i rest j h u v a c
-        ]
+        | inl e ↦ absurd (cross-in (n .fragments) (list-fragments ns) g f across (subst (λ (w : NodeList). In g (w .fragments)) (sym e) v)
+            (in-flat (λ (w : NodeList). w .fragments) ns l f j u) i c a)
+        | inr h ↦ one-list ns l k f g i rest j h u v a c
+      ]
     ]
 
 -- the fragments of each list

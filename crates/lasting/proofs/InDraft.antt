@@ -150,8 +150,8 @@ module _ {ceiling : ℕ} {b : List ℕ} {s : Section} {adds : List Add} (x : Dra
           let k = x .below in
           let (p, n) = last-is-header in
           subst (Taken (length mid) ceiling) (sym (committing-is guid))
-            (taken-append (length mid) ceiling (log-writes s adds) (last-write b s adds guid ∷ [])
-              (logs-step .taken (length mid) ceiling mid-long k (end-below log-end (c .1 .1 .1 .1 .0))) (omega arith, omega arith, tt))
+          (taken-append (length mid) ceiling (log-writes s adds) (last-write b s adds guid ∷ [])
+          (logs-step .taken (length mid) ceiling mid-long k (end-below log-end (c .1 .1 .1 .1 .0))) (omega arith, omega arith, tt))
 
       commit-below : length (committed-bytes b s adds guid) ≤ ceiling
       commit-below =
@@ -170,7 +170,7 @@ module _ {ceiling : ℕ} {b : List ℕ} {s : Section} {adds : List Add} (x : Dra
       unfolding applied
       committed-drafting r = record {
         are-bytes = subst Bytes (sym (committed-is guid))
-          (written-bytes (applied mid (log-writes s adds)) 0 (last-write b s adds guid .new) (applied-bytes mid (log-writes s adds) mid-bytes (logs-step .are-bytes))
+            (written-bytes (applied mid (log-writes s adds)) 0 (last-write b s adds guid .new) (applied-bytes mid (log-writes s adds) mid-bytes (logs-step .are-bytes))
             (header-bytes mid (s .header) log-end guid mid-bytes guid-bytes));
         opens = r .opens;
         dones = tt;

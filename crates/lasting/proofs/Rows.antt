@@ -39,7 +39,7 @@ pub written-bytes : (b : List ℕ) (p : ℕ) (new : List ℕ) → Bytes b → By
 unfolding written
 written-bytes b p new h k =
     all-append (λ x. x < 256) (take p b) (new ++ drop (p + length new) b) (all-take (λ x. x < 256) p b h)
-      (all-append (λ x. x < 256) new (drop (p + length new) b) k (all-drop (λ x. x < 256) (p + length new) b h))
+    (all-append (λ x. x < 256) new (drop (p + length new) b) k (all-drop (λ x. x < 256) (p + length new) b h))
 
 -- ---- a list of writes
 

@@ -112,9 +112,10 @@ module _ (b c : List ℕ) where
   numbered-same end id i (f ∷ []) n a s t m = (marked-same id i f s t (m .0), tt)
   numbered-same end id i (f ∷ (g ∷ gs)) n a s t m =
       let k : 36 ≤ f .size = n .0 .0 in
-      let w = a .0 in
-      ( marked-same id i f (λ j x y. w j (omega arith) (omega arith)) (λ j x y. w j (omega arith) (omega arith)) (m .0)
-      , numbered-same end id (i + 1) (g ∷ gs) (n .1) (a .1) s t (m .1))
+      let w = a .0 in (
+        marked-same id i f (λ j x y. w j (omega arith) (omega arith)) (λ j x y. w j (omega arith) (omega arith)) (m .0),
+        numbered-same end id (i + 1) (g ∷ gs) (n .1) (a .1) s t (m .1),
+      )
 
   agree-on : (end : ℕ) (fs : List Span) (q : ℕ) → end ≤ length b → end ≤ length c → All (Inside 36 end) fs → All (Alike b c) (but-last fs)
       → Same b c (last-fragment fs .start) q → q ≤ end → Agree b c fs q
@@ -152,9 +153,9 @@ module _ (b c : List ℕ) where
       record {
         header = headed-same (s .header) (λ i l k. sym (h i (in-header (l, k)))) n (m .header);
         log = logs-same (s .header) (s .log)
-          (all-from-in (Alike b c) (log-footprint (s .log)) (λ r j i l k. sym (h i (in-log (has-from-in (log-footprint (s .log)) r j) (l, k))))) (m .log);
+            (all-from-in (Alike b c) (log-footprint (s .log)) (λ r j i l k. sym (h i (in-log (has-from-in (log-footprint (s .log)) r j) (l, k))))) (m .log);
         lists = all-from-in (Stands c (s .header) (s .log)) (s .lists) (λ l j.
-          stands-same s l stored n (list-end m l j)
+            stands-same s l stored n (list-end m l j)
             (all-from-in (Alike b c) (list-footprint l) (λ r k i x y. sym (h i (in-list (has-from-in (s .lists) l j) (has-from-in (list-footprint l) r k) (x, y)))))
             (all-in (Stands b (s .header) (s .log)) (s .lists) l (m .lists) j));
         reached = m .reached;

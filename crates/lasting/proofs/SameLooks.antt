@@ -67,7 +67,7 @@ module _ (b c : List ℕ) (s : Section) (m : Means b s) (n : s .header .end ≤ 
   data-span list k i t =
       let (l, j, w) = nodes-of-in (s .lists) list k i in
       in-flat (λ (l : NodeList). map (λ (k : Node). k .reference) (referring 1 (l .nodes))) (s .lists) l (k .reference) j
-        (in-map (λ (k : Node). k .reference) (referring 1 (l .nodes)) k (referring-in 1 (l .nodes) k t w))
+      (in-map (λ (k : Node). k .reference) (referring 1 (l .nodes)) k (referring-in 1 (l .nodes) k t w))
 
   data-same : (list place size : ℕ) (k : Node) → In k (nodes-of (s .lists) list) ⊎ (k ≡ no-node) → place + size ≤ data-of k .size
       → piece c (data-of k .start + place) size ≡ piece b (data-of k .start + place) size
@@ -87,8 +87,8 @@ module _ (b c : List ℕ) (s : Section) (m : Means b s) (n : s .header .end ≤ 
           let stored = m .header .stored in
           let same : Same c b (k .reference .start) (end-of (k .reference)) = λ i u v. h i (in-data (has-from-in (data-spans (s .lists)) (k .reference) r) (u, v)) in
           rw t (piece-in c b (k .reference .start) (end-of (k .reference)) (k .reference .start + place) size same (omega arith) (omega arith) (omega arith) (omega arith))
-      ]
     ]
+  ]
 
   seen-same : (l : Look) → seen-in c s l ≡ seen-in b s l
   seen-same (node-look k list index buffer) = refl
@@ -97,12 +97,12 @@ module _ (b c : List ℕ) (s : Section) (m : Means b s) (n : s .header .end ≤ 
       let (p, q) = unless-done ((eqb k 0 || ltb (s .header .count) k, fault 25 5 0 0) ∷ (_, fault 26 5 0 0) ∷ []) (done (getD (nodes-of (s .lists) list) index no-node)) n e in
       let v : getD (nodes-of (s .lists) list) index no-node ≡ n = cc in
       let w : In n (nodes-of (s .lists) list) ⊎ (n ≡ no-node)
-            = subst (λ (v : Node). In v (nodes-of (s .lists) list) ⊎ (v ≡ no-node)) v (getD-in (nodes-of (s .lists) list) index no-node) in
+      = subst (λ (v : Node). In v (nodes-of (s .lists) list) ⊎ (v ≡ no-node)) v (getD-in (nodes-of (s .lists) list) index no-node) in
       elim (cases-bool (ltb (data-of n .size) (place + size) || ltb (length buffer) size)) [
-      | inl t ↦ rw t
-      | inr t ↦
-          let (x, y) = or-parts (ltb (data-of n .size) (place + size)) (ltb (length buffer) size) t in
-          rw t (ap (λ x. done (bytes x)) (data-same list place size n w (ltb-false (data-of n .size) (place + size) x)))
+        | inl t ↦ rw t
+        | inr t ↦
+            let (x, y) = or-parts (ltb (data-of n .size) (place + size)) (ltb (length buffer) size) t in
+            rw t (ap (λ x. done (bytes x)) (data-same list place size n w (ltb-false (data-of n .size) (place + size) x)))
       ])
 
   -- what a list holds

@@ -5,6 +5,7 @@ use mathlib.Core.Path.{_≡_, refl, ap}
 use mathlib.Core.List.{List, [], _∷_, _++_}
 use native.Mathlib.Omega.{arith}
 use lib.ListN.{length, replicate}
+use Rattle.std.specs.shelf.Lists.{All}
 use Rattle.std.proofs.shelf.Lists.{length-append, length-replicate}
 use Rattle.std.proofs.shelf.Elements.{all-append}
 use Rattle.model.specs.declared.types.Span.{Span}
@@ -47,8 +48,14 @@ piece-ends y new = simp (length-append, length-replicate) (omega arith)
 
 -- ---- bytes
 
-bytes-join : (xs ys : List ℕ) → Bytes xs → Bytes ys → Bytes (xs ++ ys)
-bytes-join xs ys a c = all-append (λ x. x < 256) xs ys a c
+-- parts one after the other
+abbrev row-of : List (List ℕ) → List ℕ → List ℕ
+row-of [] last = last
+row-of (xs ∷ xss) last = xs ++ row-of xss last
+
+row-bytes : (xss : List (List ℕ)) (last : List ℕ) → All Bytes xss → Bytes last → Bytes (row-of xss last)
+row-bytes [] last a c = c
+row-bytes (xs ∷ xss) last (p, a) c = all-append (λ x. x < 256) xs (row-of xss last) p (row-bytes xss last a c)
 
 pub digits-bytes : (n v : ℕ) → Bytes (digits n v)
 unfolding digits
@@ -60,37 +67,34 @@ zeros-bytes zero = tt
 zeros-bytes (suc n) = (omega arith, zeros-bytes n)
 
 pub span-bytes-bytes : (r : Span) → Bytes (span-bytes r)
-span-bytes-bytes r = bytes-join (digits 8 (r .start)) (digits 4 (r .size)) (digits-bytes 8 (r .start)) (digits-bytes 4 (r .size))
+span-bytes-bytes r = row-bytes (digits 8 (r .start) ∷ []) (digits 4 (r .size)) (digits-bytes 8 (r .start), tt) (digits-bytes 4 (r .size))
 
 pub plain-bytes : (id : ℕ) (payload : List ℕ) → Bytes payload → Bytes (plain-node id payload)
-plain-bytes id payload a = bytes-join (node-head id (4 + length payload) 0) payload (digits-bytes 4 _) a
+plain-bytes id payload a = row-bytes (node-head id (4 + length payload) 0 ∷ []) payload (digits-bytes 4 _, tt) a
 
 pub referring-bytes : (id base : ℕ) (r : Span) (payload : List ℕ) → Bytes payload → Bytes (referring-node id base r payload)
 referring-bytes id base r payload a =
-    bytes-join (node-head id (16 + length payload) base) (span-bytes r ++ payload) (digits-bytes 4 _) (bytes-join (span-bytes r) payload (span-bytes-bytes r) a)
+    row-bytes (node-head id (16 + length payload) base ∷ span-bytes r ∷ []) payload (digits-bytes 4 _, (span-bytes-bytes r, tt)) a
 
 pub fragment-bytes : (id number : ℕ) (node : List ℕ) → Bytes node → Bytes (new-fragment id number node)
 fragment-bytes id number node a =
     let zeros = replicate (988 - length node) 0 in
-    let last = span-bytes nil ++ digits 8 last-mark in
-    bytes-join (digits 8 first-mark) (digits 4 id ++ (digits 4 number ++ (node ++ (zeros ++ last)))) (digits-bytes 8 first-mark)
-      (bytes-join (digits 4 id) (digits 4 number ++ (node ++ (zeros ++ last))) (digits-bytes 4 id)
-        (bytes-join (digits 4 number) (node ++ (zeros ++ last)) (digits-bytes 4 number)
-          (bytes-join node (zeros ++ last) a
-            (bytes-join zeros last (zeros-bytes (988 - length node)) (bytes-join (span-bytes nil) (digits 8 last-mark) (span-bytes-bytes nil) (digits-bytes 8 last-mark))))))
+    let parts : List (List ℕ) = digits 8 first-mark ∷ digits 4 id ∷ digits 4 number ∷ node ∷ zeros ∷ span-bytes nil ∷ [] in
+    let each : All Bytes parts = (digits-bytes 8 first-mark, (digits-bytes 4 id, (digits-bytes 4 number, (a, (zeros-bytes (988 - length node), (span-bytes-bytes nil, tt)))))) in
+    row-bytes parts (digits 8 last-mark) each (digits-bytes 8 last-mark)
 
 pub entry-bytes-bytes : (es : List Entry) → Bytes (entry-bytes es)
 unfolding entry-bytes
 entry-bytes-bytes [] = tt
 entry-bytes-bytes (e ∷ es) =
-    bytes-join (digits 4 (e .source)) (digits 4 (e .number) ++ entry-bytes es) (digits-bytes 4 (e .source))
-      (bytes-join (digits 4 (e .number)) (entry-bytes es) (digits-bytes 4 (e .number)) (entry-bytes-bytes es))
+    row-bytes (digits 4 (e .source) ∷ digits 4 (e .number) ∷ []) (entry-bytes es) (digits-bytes 4 (e .source), (digits-bytes 4 (e .number), tt)) (entry-bytes-bytes es)
 
 pub log-fragment-bytes : (es : List Entry) → Bytes (new-log-fragment es)
 log-fragment-bytes es =
     let zeros = replicate (8 * (126 - length es)) 0 in
-    bytes-join (entry-bytes es) (zeros ++ (span-bytes nil ++ replicate 4 0)) (entry-bytes-bytes es)
-      (bytes-join zeros (span-bytes nil ++ replicate 4 0) (zeros-bytes (8 * (126 - length es))) (bytes-join (span-bytes nil) (replicate 4 0) (span-bytes-bytes nil) (zeros-bytes 4)))
+    let parts : List (List ℕ) = entry-bytes es ∷ zeros ∷ span-bytes nil ∷ [] in
+    let each : All Bytes parts = (entry-bytes-bytes es, (zeros-bytes (8 * (126 - length es)), (span-bytes-bytes nil, tt))) in
+    row-bytes parts (replicate 4 0) each (zeros-bytes 4)
 
 pub piece-bytes : (y : Layout) (new : List ℕ) → Bytes new → Bytes (at-end y new .new)
-piece-bytes y new a = bytes-join new (replicate ((8 - (y .end + length new) % 8) % 8) 0) a (zeros-bytes ((8 - (y .end + length new) % 8) % 8))
+piece-bytes y new a = row-bytes (new ∷ []) (replicate ((8 - (y .end + length new) % 8) % 8) 0) (a, tt) (zeros-bytes ((8 - (y .end + length new) % 8) % 8))

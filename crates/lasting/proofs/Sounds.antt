@@ -76,18 +76,21 @@ module _ {ceiling : ℕ} {b : List ℕ} {s : Section} (d : Access) (x : Drafting
   quiet : (c : Call) (o : Outcome Effect) → Does ceiling mid s d c o → commits (answer-of o) ≡ 0 → Quiet o
   unfolding applied
   quiet c o (stays i j k) q =
-      let e = unchanged o j k in
-      ( λ n u. subst (λ (st : State). Sound st n ceiling) (sym e) (sound-at here d n x refl refl refl u)
-      , λ l. ap (λ (st : State). answer st (looking l)) e)
+      let e = unchanged o j k in (
+        λ n u. subst (λ (st : State). Sound st n ceiling) (sym e) (sound-at here d n x refl refl refl u),
+        λ l. ap (λ (st : State). answer st (looking l)) e,
+      )
   quiet c o (rests a n draft i j) q =
       let then-d : Access = record { mark = d .mark; begins = n; draft = draft } in
-      let at-rest = subst (Drafting ceiling mid s) (sym j) (rested x) in
-      ( λ n u. sound-at (open-state ceiling mid then-d) then-d n at-rest refl refl (ap (drafted-bytes mid s) (sym j)) u
-      , λ l. sees ceiling mid then-d l ∙ sym (sees ceiling mid d l))
+      let at-rest = subst (Drafting ceiling mid s) (sym j) (rested x) in (
+        λ n u. sound-at (open-state ceiling mid then-d) then-d n at-rest refl refl (ap (drafted-bytes mid s) (sym j)) u,
+        λ l. sees ceiling mid then-d l ∙ sym (sees ceiling mid d l),
+      )
   quiet c o (grows token a y i fit p) q =
-      let then-d : Access = record { mark = d .mark; begins = d .begins; draft = Some (adds ++ (a ∷ [])) } in
-      ( λ n u. sound-at (open-state ceiling _ then-d) then-d n (next-drafting x a fit p) refl refl (next-is x a fit p) u
-      , λ l. sees ceiling _ then-d l ∙ ap saw (next-same x a fit p .looks l) ∙ sym (sees ceiling mid d l))
+      let then-d : Access = record { mark = d .mark; begins = d .begins; draft = Some (adds ++ (a ∷ [])) } in (
+        λ n u. sound-at (open-state ceiling _ then-d) then-d n (next-drafting x a fit p) refl refl (next-is x a fit p) u,
+        λ l. sees ceiling _ then-d l ∙ ap saw (next-same x a fit p .looks l) ∙ sym (sees ceiling mid d l),
+      )
   quiet c o (ends token guid i j p) q = absurd (omega arith)
 
   quiet-here : (c : Call) → Fit c → commits (answer here c) ≡ 0
@@ -110,12 +113,13 @@ module _ {ceiling : ℕ} {b : List ℕ} {s : Section} (d : Access) (x : Drafting
     stepped c o (ends token guid i j p) =
         let then-d : Access = record { mark = d .mark; begins = d .begins; draft = None } in
         let new = committed-bytes b s adds guid in
-        let r = reads b ceiling s adds guid (x .are-bytes) i j (x .opens) (x .dones) p in
-        ( sound-at (open-state ceiling new then-d) then-d (s .header .count + 1) (committed-drafting x guid i j p r) refl refl refl (r .count)
-        , λ k one h l q.
-            sees ceiling new then-d l
-            ∙ ap saw (grow b ceiling s adds guid (x .are-bytes) i j (x .opens) (x .dones) p l (omega arith) (omega arith) ∙ sym (mid-same x .looks l))
-            ∙ sym (sees ceiling mid d l))
+        let r = reads b ceiling s adds guid (x .are-bytes) i j (x .opens) (x .dones) p in (
+          sound-at (open-state ceiling new then-d) then-d (s .header .count + 1) (committed-drafting x guid i j p r) refl refl refl (r .count),
+          λ k one h l q.
+              sees ceiling new then-d l
+              ∙ ap saw (grow b ceiling s adds guid (x .are-bytes) i j (x .opens) (x .dones) p l (omega arith) (omega arith) ∙ sym (mid-same x .looks l))
+              ∙ sym (sees ceiling mid d l),
+        )
 
     steps-here : (c : Call) → Fit c
         → Sound (after here c) (s .header .count + commits (answer here c)) ceiling × ((k : ℕ) → 1 ≤ k → k ≤ s .header .count → Look-alike k (after here c) here)
@@ -147,7 +151,7 @@ of-sound {st} {n} {ceiling} P k p =
 pub steps-sound : Commit-reads → Looks-grow → Steps-sound
 steps-sound reads grow st n ceiling c k fit =
     of-sound (λ x m. Sound (after x c) (m + commits (answer x c)) ceiling × ((i : ℕ) → 1 ≤ i → i ≤ m → Look-alike i (after x c) x)) k
-      (steps-here (k .access) (sound-drafting k) reads grow c fit)
+    (steps-here (k .access) (sound-drafting k) reads grow c fit)
 
 -- the store takes each write of the next call
 pub sound-takes : {st : State} {n ceiling : ℕ} (c : Call) → Sound st n ceiling → Fit c → Taken (length (st .bytes)) ceiling (writes st c)
@@ -158,7 +162,7 @@ unseen : {st : State} {n ceiling : ℕ} (c : Call) → Sound st n ceiling → Fi
     → Sound (after st c) n ceiling × ((l : Look) → answer (after st c) (looking l) ≡ answer st (looking l))
 unseen {ceiling = ceiling} c k fit =
     of-sound (λ x m. commits (answer x c) ≡ 0 → Sound (after x c) m ceiling × ((l : Look) → answer (after x c) (looking l) ≡ answer x (looking l))) k
-      (λ q. let (u, v) = quiet-here (k .access) (sound-drafting k) c fit q in (u (k .section .header .count) refl, v))
+    (λ q. let (u, v) = quiet-here (k .access) (sound-drafting k) c fit q in (u (k .section .header .count) refl, v))
 
 pub drafts-unseen : Drafts-unseen
 drafts-unseen s n ceiling k [] u l = refl

@@ -33,13 +33,13 @@ steps-append {s} {a} {b} {c} {ws} {vs} x y =
       free = all-append (Writes-free s) ws vs (x .free) (y .free);
       are-bytes = all-append (λ w. Bytes (w .new)) ws vs (x .are-bytes) (y .are-bytes);
       taken = λ n ceiling h k l.
-        let r = x .reaches n h in
-        taken-append n ceiling ws vs (x .taken n ceiling h k (omega arith)) (y .taken (length-after n ws) ceiling (omega arith) (omega arith) l);
+          let r = x .reaches n h in
+          taken-append n ceiling ws vs (x .taken n ceiling h k (omega arith)) (y .taken (length-after n ws) ceiling (omega arith) (omega arith) l);
       reaches = λ n h.
-        let r = x .reaches n h in
-        let q = y .reaches (length-after n ws) (omega arith) in
-        let e = length-after-append n ws vs in
-        omega arith;
+          let r = x .reaches n h in
+          let q = y .reaches (length-after n ws) (omega arith) in
+          let e = length-after-append n ws vs in
+          omega arith;
     }
 
 pub steps-none : {s : Section} {a : ℕ} → Steps s a a []

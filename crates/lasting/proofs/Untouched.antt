@@ -34,9 +34,9 @@ outside : (s : Section) (i : ℕ) (w : Write) → (Free s i → ⊥) → Writes-
 outside s i w x a = elim (cases-lt i (w .place)) [
   | inl l ↦ inl l
   | inr l ↦ elim (cases-lt i (behind w)) [
-      | inl k ↦ absurd (x (a i l k))
-      | inr k ↦ inr k
-    ]
+    | inl k ↦ absurd (x (a i l k))
+    | inr k ↦ inr k
+  ]
 ]
 
 all-outside : (s : Section) (i : ℕ) (ws : List Write) → (Free s i → ⊥) → All (Writes-free s) ws → All (Outside i) ws
