@@ -92,8 +92,8 @@ module _ {s : Section} {a b : ℕ} {t : Tail} (x : Tail-held s a t) (h : a ≤ b
   steps-close =
       let n = length-digits 4 0x800010FF in
       let room : leb (t .free + 4) (nodes-to (t .fragment)) ≡ true → Steps s b b (put (t .free) terminator ∷ []) = λ e.
-          let k = leb-true (t .free + 4) (nodes-to (t .fragment)) e in
-          steps-within (t .free) terminator (omega arith) (digits-bytes 4 0x800010FF) (λ i u v. tail-free (x .grown) (x .free-from) i u (omega arith)) in
+      let k = leb-true (t .free + 4) (nodes-to (t .fragment)) e in
+      steps-within (t .free) terminator (omega arith) (digits-bytes 4 0x800010FF) (λ i u v. tail-free (x .grown) (x .free-from) i u (omega arith)) in
       cond-both (leb (t .free + 4) (nodes-to (t .fragment))) (put (t .free) terminator ∷ []) [] (Steps s b b) room (λ e. steps-none)
 
   steps-next : (r : Span) → Steps s b b (put (nodes-to (t .fragment)) (span-bytes r) ∷ [])
@@ -165,21 +165,24 @@ kept-planned {s} {y} ceiling (plain list id payload) d fit p =
     kept-node list (plain-node id payload) d (grind (arith, tells)) (omega (arith, length-plain id payload)) (plain-bytes id payload fit)
 kept-planned {s} {y} ceiling (with-data list id payload content) d fit p =
     let r = span (y .end) (length content) in
+    let node = referring-node id 1 r payload in
     let k : 16 + length payload ≤ 988 = grind (arith, tells) in
     let q = piece-ends y content in
-    kept-after (steps-at-end y content (d .end) (fit .1))
-    (kept-node list (referring-node id 1 r payload) (held-later _ d (omega arith)) (grind (arith, tells)) (omega (arith, length-referring id 1 r payload))
-    (referring-bytes id 1 r payload (fit .0)))
+    let z = length-referring id 1 r payload in
+    let first = steps-at-end {s = s} y content (d .end) (fit .1) in
+    kept-after first (kept-node list node (held-later _ d (omega arith)) (grind (arith, tells)) (omega arith) (referring-bytes id 1 r payload (fit .0)))
 kept-planned {s} {y} ceiling (branch list id payload first-id first-payload) d fit p =
     let r = span (y .end) 1024 in
     let made = y .highest + 1 in
-    let first = plain-node first-id first-payload in
+    let first-node = plain-node first-id first-payload in
     let k : 16 + length payload ≤ 988 = grind (arith, tells) in
     let f : 4 + length first-payload ≤ 988 = grind (arith, tells) in
-    let g : length first ≤ 988 = omega (arith, length-plain first-id first-payload) in
-    let z = length-new-fragment made 0 first g in
-    let q = piece-ends y (new-fragment made 0 first) in
+    let g : length first-node ≤ 988 = omega (arith, length-plain first-id first-payload) in
+    let new-piece = new-fragment made 0 first-node in
+    let z = length-new-fragment made 0 first-node g in
+    let q = piece-ends y new-piece in
+    let n = length-referring id 2 r payload in
     let m : member list (map (λ t. t .id) (y .tails)) ≡ true = grind (arith, tells) in
-    kept-after (steps-at-end y (new-fragment made 0 first) (d .end) (fragment-bytes made 0 first (plain-bytes first-id first-payload (fit .1))))
-    (kept-node list (referring-node id 2 r payload) (held-list list made _ (length first) d g (omega arith)) (member-append list (y .tails) _ m)
-    (omega (arith, length-referring id 2 r payload)) (referring-bytes id 2 r payload (fit .0)))
+    let first = steps-at-end {s = s} y new-piece (d .end) (fragment-bytes made 0 first-node (plain-bytes first-id first-payload (fit .1))) in
+    let held = held-list list made (behind (at-end y new-piece)) (length first-node) d g (omega arith) in
+    kept-after first (kept-node list (referring-node id 2 r payload) held (member-append list (y .tails) _ m) (omega arith) (referring-bytes id 2 r payload (fit .0)))

@@ -123,9 +123,8 @@ module _ {ceiling : ℕ} {b : List ℕ} {s : Section} (d : Access) (x : Drafting
           → (cut : Cut z w t) (mark : ℕ) → Survives here (s .header .count) ceiling (commit token guid) cut mark
       cut-header z w t q r (old-header k) mark = unharmed (commit token guid) (old-header k) refl (subst (λ y. Same-file mid y s) (sym q) (logs-same x)) mark
       cut-header z w t q r (new-header k) mark =
-          let e : written z (w .place) (w .new) ≡ committed-bytes b s adds guid =
-          ap (λ y. written y (w .place) (w .new)) q ∙ ap (λ (v : Write). written (applied mid (log-writes s adds)) (v .place) (v .new)) r ∙ sym (committed-is x guid) in
-          grown-by (commit token guid) (new-header k) refl e mark
+          let e : written z (w .place) (w .new) ≡ written (applied mid (log-writes s adds)) 0 (last-write b s adds guid .new) = cc in
+          grown-by (commit token guid) (new-header k) refl (e ∙ sym (committed-is x guid)) mark
       cut-header z w t q r (torn k c d e f) mark = absurd (k (subst Writes-header (sym r) (last-is-header x guid gb gl)))
 
     survives : (c : Call) (o : Outcome Effect) → Does ceiling mid s d c o → (before later : List Write) (w : Write) → writes-of o ≡ before ++ (w ∷ later)
@@ -135,11 +134,10 @@ module _ {ceiling : ℕ} {b : List ℕ} {s : Section} (d : Access) (x : Drafting
     survives c o (grows token a y i fit p) before later w e t cut mark =
         cut-step (add token a) (planned (layout s adds) a .layout .end) (planned (layout s adds) a .writes) before later w (next-step x a fit p) e t cut (λ h. refl) mark
     survives c o (ends token guid gb gl p) before later w e t cut mark =
+        let raises = λ (h : Writes-header w → ⊥). not-raised token guid (applied mid before) w t h cut in
         elim (at-last (log-writes s adds) (last-write b s adds guid) before w later (sym (committing-is x guid) ∙ e)) [
           | inl (q, r) ↦ cut-header token guid gb gl p (applied mid before) w t (ap (applied mid) q) r cut mark
-          | inr (rest, q) ↦
-              cut-step (commit token guid) (logged s (layout s adds) .end) (log-writes s adds) before rest w (logs-step x) q t cut
-              (λ h. not-raised token guid (applied mid before) w t h cut) mark
+          | inr (rest, q) ↦ cut-step (commit token guid) (logged s (layout s adds) .end) (log-writes s adds) before rest w (logs-step x) q t cut raises mark
         ]
 
     survives-here : (c : Call) → Fit c → (before later : List Write) (w : Write) → writes here c ≡ before ++ (w ∷ later)
@@ -147,8 +145,10 @@ module _ {ceiling : ℕ} {b : List ℕ} {s : Section} (d : Access) (x : Drafting
     unfolding writes
     survives-here c fit = survives c (effect here c) (does-here d x c fit)
 
+-- every cut in the call c
+abbrev Each-cut : Call → ℕ → State → ℕ → Type 0
+Each-cut c ceiling st n = (before later : List Write) (w : Write) → writes st c ≡ before ++ (w ∷ later)
+    → (t : List ℕ) (cut : Cut (applied (st .bytes) before) w t) (mark : ℕ) → Survives st n ceiling c cut mark
+
 pub cuts-survive : Commit-reads → Looks-grow → Cuts-survive
-cuts-survive reads grow st n ceiling c k fit =
-    of-sound (λ (st : State) m. (before later : List Write) (w : Write) → writes st c ≡ before ++ (w ∷ later)
-    → (t : List ℕ) (cut : Cut (applied (st .bytes) before) w t) (mark : ℕ) → Survives st m ceiling c cut mark) k
-    (survives-here (k .access) (sound-drafting k) reads grow c fit)
+cuts-survive reads grow st n ceiling c k fit = of-sound (Each-cut c ceiling) k (survives-here (k .access) (sound-drafting k) reads grow c fit)

@@ -17,7 +17,7 @@ use Rattle.model.specs.Bytes.{put, behind}
 use Rattle.model.specs.Faults.{done}
 use Rattle.model.specs.References.{span, span-bytes}
 use Rattle.model.specs.LogFragments.{entry-bytes, entries-in, entry-place, log-next, new-log-fragment}
-use Rattle.model.specs.Section.{Section}
+use Rattle.model.specs.Section.{NodeList, Section}
 use Rattle.model.specs.Opened.{opened}
 use Rattle.model.specs.Layouts.{Add, Layout, tail-of, blank}
 use Rattle.model.specs.Saving.{at-end, plan, planned, laid, layout}
@@ -26,7 +26,7 @@ use Rattle.model.specs.Calls.{add-checks}
 use Rattle.model.specs.Journal.{Fit-add}
 use Rattle.model.specs.Laws.{last-fragment, in-log, Writes-free, Done-adds, add-writes, Drafts-write-free}
 use Rattle.meaning.proofs.Base.{Clean}
-use Rattle.meaning.proofs.Members.{all-from-in}
+use Rattle.meaning.proofs.Members.{In, all-from-in}
 use Rattle.lasting.proofs.Places.{meant, Log-end, list-end, log-end}
 use Rattle.lasting.proofs.Sizes.{length-span-bytes, length-entry-bytes, piece-ends, span-bytes-bytes, entry-bytes-bytes, log-fragment-bytes}
 use Rattle.lasting.proofs.Steps.{Steps, steps-append, steps-none, steps-at-end, steps-within}
@@ -74,8 +74,9 @@ steps-rest s y (e ∷ es) r g h =
     let new = new-log-fragment (e ∷ es) in
     let p = piece-ends y new in
     let k : ltb 0 (length (e ∷ es)) ≡ true = lt-ltb 0 (length (e ∷ es)) (omega arith) in
-    rw k (steps-append (steps-at-end y new h (log-fragment-bytes (e ∷ es)))
-    (steps-within (log-next (last-log s)) (span-bytes r) (omega arith) (span-bytes-bytes r) (λ i u v. in-log (omega arith) (omega arith))))
+    let next : Steps s (behind (at-end y new)) (behind (at-end y new)) (put (log-next (last-log s)) (span-bytes r) ∷ [])
+    = steps-within (log-next (last-log s)) (span-bytes r) (omega arith) (span-bytes-bytes r) (λ i u v. in-log (omega arith) (omega arith)) in
+    rw k (steps-append (steps-at-end y new h (log-fragment-bytes (e ∷ es))) next)
 
 steps-fit : (s : Section) (a : ℕ) (fit : List Entry) → Log-end s → s .header .end ≤ a → length fit ≤ entries-in (last-log s .size) - s .log .used
     → Steps s a a (if-any fit (put (entry-place (last-log s) (s .log .used)) (entry-bytes fit) ∷ []))
@@ -99,13 +100,16 @@ steps-logged s y g d =
 -- ---- over an accepted file
 
 module _ (b : List ℕ) (s : Section) (opens : opened b ≡ done s) where
+  held-tail : (l : NodeList) → In l (s .lists) → Tail-held s (s .header .end) (tail-of l)
+  held-tail l i =
+      let e = list-end (meant b s opens) l i in
+      let from = e .free-from in
+      record { grown = old l i refl (omega arith); size = e .size; to = e .to; free-from = omega arith; free-to = e .free-to }
+
   held-blank : Draft-held s (blank s)
   held-blank = record {
     end = omega arith;
-    tails = all-map (Tail-held s (s .header .end)) tail-of (s .lists) (all-from-in (λ l. Tail-held s (s .header .end) (tail-of l)) (s .lists) (λ l i.
-        let e = list-end (meant b s opens) l i in
-        let from = e .free-from in
-        record { grown = old l i refl (omega arith); size = e .size; to = e .to; free-from = omega arith; free-to = e .free-to }));
+    tails = all-map (Tail-held s (s .header .end)) tail-of (s .lists) (all-from-in (λ l. Tail-held s (s .header .end) (tail-of l)) (s .lists) held-tail);
   }
 
   module _ (ceiling : ℕ) (adds : List Add) (dones : Done-adds ceiling (blank s) adds) where
@@ -124,5 +128,6 @@ module _ (b : List ℕ) (s : Section) (opens : opened b ≡ done s) where
 
 pub drafts-write-free : Drafts-write-free
 drafts-write-free b ceiling s adds bytes opens dones =
-    all-append (Writes-free s) (add-writes (blank s) adds) (logged s (layout s adds) .writes)
-    (adds-step b s opens ceiling adds dones .free) (log-step b s opens ceiling adds dones .free)
+    let one = adds-step b s opens ceiling adds dones in
+    let two = log-step b s opens ceiling adds dones in
+    all-append (Writes-free s) (add-writes (blank s) adds) (logged s (layout s adds) .writes) (one .free) (two .free)

@@ -70,29 +70,31 @@ module _ (ceiling : ℕ) (b : List ℕ) (s : Section) (opens : opened b ≡ done
   does-begin : (draft : Option (List Add)) → Does ceiling b s (known draft) begin (effect (open-state ceiling b (known draft)) begin)
   does-begin (Some adds) = refuses (Some adds) begin (saving 14)
   does-begin None =
-      let e : Effect = record { answer = begun (record { mark = mark; number = begins + 1 }); writes = []; access = access-of mark (begins + 1) (Some []) } in
-      unless-either ((leb (2 ^ 64) (begins + 1), saving 23) ∷ []) (done e) (Does ceiling b s (known None) begin) (refuses None begin)
-      (λ p. rests (begun (record { mark = mark; number = begins + 1 })) (begins + 1) (Some []) refl refl)
+      let x = begun (record { mark = mark; number = begins + 1 }) in
+      let e : Effect = record { answer = x; writes = []; access = access-of mark (begins + 1) (Some []) } in
+      let rest = λ (p : Clean ((leb (2 ^ 64) (begins + 1), saving 23) ∷ [])). rests x (begins + 1) (Some []) refl refl in
+      unless-either ((leb (2 ^ 64) (begins + 1), saving 23) ∷ []) (done e) (Does ceiling b s (known None) begin) (refuses None begin) rest
 
   does-abandon : (draft : Option (List Add)) (token : Draft) → Does ceiling b s (known draft) (abandon token) (effect (open-state ceiling b (known draft)) (abandon token))
   unfolding foreign
   does-abandon None token = refuses None (abandon token) (saving 16)
   does-abandon (Some adds) token =
+      let P : Outcome Effect → Type 0 = Does ceiling b s (known (Some adds)) (abandon token) in
       let e : Effect = record { answer = abandoned; writes = []; access = access-of mark begins None } in
-      unless-either (foreign token) (done e) (Does ceiling b s (known (Some adds)) (abandon token)) (refuses (Some adds) (abandon token))
-      (λ p. rests abandoned begins None refl refl)
+      unless-either (foreign token) (done e) P (refuses (Some adds) (abandon token)) (λ p. rests abandoned begins None refl refl)
 
   does-add : (draft : Option (List Add)) (token : Draft) (a : Add) → Fit-add a → Does ceiling b s (known draft) (add token a) (effect (open-state ceiling b (known draft)) (add token a))
   unfolding foreign
   does-add None token a fit = refuses None (add token a) (saving 16)
   does-add (Some adds) token a fit =
       let P : Outcome Effect → Type 0 = Does ceiling b s (known (Some adds)) (add token a) in
-      let e : Section → Effect = λ x. record { answer = add-answer (planned (layout x adds) a .layout) a; writes = planned (layout x adds) a .writes; access = access-of mark begins (Some (adds ++ (a ∷ []))) } in
-      let k : Section → Outcome Effect = λ x. unless (add-checks ceiling (layout x adds) a) (done (e x)) in
-      unless-either (foreign token) (then (opened b) k) P (refuses (Some adds) (add token a)) (λ p.
-      subst (λ o. P (then o k)) (sym opens)
-      (unless-either (add-checks ceiling (layout s adds) a) (done (e s)) P (refuses (Some adds) (add token a)) (λ q.
-      grows token a (add-answer (planned (layout s adds) a .layout) a) (not-committed (planned (layout s adds) a .layout) a) fit q)))
+      let x : Section → Answer = λ z. add-answer (planned (layout z adds) a .layout) a in
+      let e : Section → Effect = λ z. record { answer = x z; writes = planned (layout z adds) a .writes; access = access-of mark begins (Some (adds ++ (a ∷ []))) } in
+      let k : Section → Outcome Effect = λ z. unless (add-checks ceiling (layout z adds) a) (done (e z)) in
+      let refuse = refuses (Some adds) (add token a) in
+      let grow = λ (q : Clean (add-checks ceiling (layout s adds) a)). grows token a (x s) (not-committed (planned (layout s adds) a .layout) a) fit q in
+      let own : P (then (opened b) k) = subst (λ o. P (then o k)) (sym opens) (unless-either (add-checks ceiling (layout s adds) a) (done (e s)) P refuse grow) in
+      unless-either (foreign token) (then (opened b) k) P refuse (λ p. own)
 
   does-commit : (draft : Option (List Add)) (token : Draft) (guid : List ℕ) → Bytes guid → length guid ≡ 16
       → Does ceiling b s (known draft) (commit token guid) (effect (open-state ceiling b (known draft)) (commit token guid))
@@ -100,11 +102,12 @@ module _ (ceiling : ℕ) (b : List ℕ) (s : Section) (opens : opened b ≡ done
   does-commit None token guid x y = refuses None (commit token guid) (saving 16)
   does-commit (Some adds) token guid x y =
       let P : Outcome Effect → Type 0 = Does ceiling b s (known (Some adds)) (commit token guid) in
-      let e : Section → Effect = λ x. record { answer = committed; writes = committing b x adds guid; access = access-of mark begins None } in
-      let k : Section → Outcome Effect = λ x. unless (commit-checks ceiling x adds guid) (done (e x)) in
-      unless-either (foreign token) (then (opened b) k) P (refuses (Some adds) (commit token guid)) (λ p.
-      subst (λ o. P (then o k)) (sym opens)
-      (unless-either (commit-checks ceiling s adds guid) (done (e s)) P (refuses (Some adds) (commit token guid)) (λ q. ends token guid x y q)))
+      let e : Section → Effect = λ z. record { answer = committed; writes = committing b z adds guid; access = access-of mark begins None } in
+      let k : Section → Outcome Effect = λ z. unless (commit-checks ceiling z adds guid) (done (e z)) in
+      let refuse = refuses (Some adds) (commit token guid) in
+      let end = λ (q : Clean (commit-checks ceiling s adds guid)). ends token guid x y q in
+      let own : P (then (opened b) k) = subst (λ o. P (then o k)) (sym opens) (unless-either (commit-checks ceiling s adds guid) (done (e s)) P refuse end) in
+      unless-either (foreign token) (then (opened b) k) P refuse (λ p. own)
 
   pub does : (draft : Option (List Add)) (c : Call) → Fit c → Does ceiling b s (known draft) c (effect (open-state ceiling b (known draft)) c)
   does draft (open-file m) fit = refuses draft (open-file m) (saving 14)

@@ -28,15 +28,17 @@ one-list : (ls : List NodeList) (l k : NodeList) (f g : Span) (i : ℕ) → Pair
 one-list [] l k f g i p x y u v a c = absurd x
 one-list (n ∷ ns) l k f g i p x y u v a c =
     let (own, rest, across) = pairs-split Apart (n .fragments) (list-fragments ns) p in
+    let not-both : (l k : NodeList) (f g : Span) → n ≡ l → In k ns → In f (l .fragments) → In g (k .fragments) → Within f i → Within g i → ⊥
+    = λ l k f g d j u v a c.
+    let in-n = subst (λ (w : NodeList). In f (w .fragments)) (sym d) u in
+    cross-in (n .fragments) (list-fragments ns) f g across in-n (in-flat (λ (w : NodeList). w .fragments) ns k g j v) i a c in
     elim x [
       | inl d ↦ elim y [
         | inl e ↦ sym d ∙ e
-        | inr j ↦ absurd (cross-in (n .fragments) (list-fragments ns) f g across (subst (λ (w : NodeList). In f (w .fragments)) (sym d) u)
-            (in-flat (λ (w : NodeList). w .fragments) ns k g j v) i a c)
+        | inr j ↦ absurd (not-both l k f g d j u v a c)
       ]
       | inr j ↦ elim y [
-        | inl e ↦ absurd (cross-in (n .fragments) (list-fragments ns) g f across (subst (λ (w : NodeList). In g (w .fragments)) (sym e) v)
-            (in-flat (λ (w : NodeList). w .fragments) ns l f j u) i c a)
+        | inl e ↦ absurd (not-both k l g f e j v u c a)
         | inr h ↦ one-list ns l k f g i rest j h u v a c
       ]
     ]

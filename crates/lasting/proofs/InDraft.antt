@@ -144,20 +144,23 @@ module _ {ceiling : ℕ} {b : List ℕ} {s : Section} {adds : List Add} (x : Dra
     last-is-header = writes-header mid (s .header) log-end guid (meant mid s (mid-same .opens) .header .whole) guid-length
 
     module _ (c : Clean (commit-checks ceiling s adds guid)) where
+      log-below : log-end ≤ ceiling
+      log-below = end-below log-end (c .1 .1 .1 .1 .0)
+
       pub commit-taken : Taken (length mid) ceiling (committing mid s adds guid)
       commit-taken =
           let h = meant mid s (mid-same .opens) .header .whole in
           let k = x .below in
           let (p, n) = last-is-header in
-          subst (Taken (length mid) ceiling) (sym (committing-is guid))
-          (taken-append (length mid) ceiling (log-writes s adds) (last-write b s adds guid ∷ [])
-          (logs-step .taken (length mid) ceiling mid-long k (end-below log-end (c .1 .1 .1 .1 .0))) (omega arith, omega arith, tt))
+          let logs = logs-step .taken (length mid) ceiling mid-long k log-below in
+          let all = taken-append (length mid) ceiling (log-writes s adds) (last-write b s adds guid ∷ []) logs (omega arith, omega arith, tt) in
+          subst (Taken (length mid) ceiling) (sym (committing-is guid)) all
 
       commit-below : length (committed-bytes b s adds guid) ≤ ceiling
       commit-below =
           let h = meant mid s (mid-same .opens) .header .whole in
           let k = x .below in
-          let e = end-below log-end (c .1 .1 .1 .1 .0) in
+          let e = log-below in
           let (p, n) = last-is-header in
           let r = logs-step .reaches (length mid) mid-long in
           let u = length-applied mid ceiling (committing mid s adds guid) commit-taken in
@@ -165,14 +168,13 @@ module _ {ceiling : ℕ} {b : List ℕ} {s : Section} {adds : List Add} (x : Dra
           let w = length-after-append (length mid) (log-writes s adds) (last-write b s adds guid ∷ []) in
           omega arith
 
+      commit-bytes : Bytes (committed-bytes b s adds guid)
+      commit-bytes =
+          let logs = applied-bytes mid (log-writes s adds) mid-bytes (logs-step .are-bytes) in
+          let header = header-bytes mid (s .header) log-end guid mid-bytes guid-bytes in
+          subst Bytes (sym (committed-is guid)) (written-bytes (applied mid (log-writes s adds)) 0 (last-write b s adds guid .new) logs header)
+
       -- what a commit leaves, if it opens
       pub committed-drafting : (r : Commits-to b s adds (committed-bytes b s adds guid) guid) → Drafting ceiling (committed-bytes b s adds guid) (r .section) []
       unfolding applied
-      committed-drafting r = record {
-        are-bytes = subst Bytes (sym (committed-is guid))
-            (written-bytes (applied mid (log-writes s adds)) 0 (last-write b s adds guid .new) (applied-bytes mid (log-writes s adds) mid-bytes (logs-step .are-bytes))
-            (header-bytes mid (s .header) log-end guid mid-bytes guid-bytes));
-        opens = r .opens;
-        dones = tt;
-        below = commit-below;
-      }
+      committed-drafting r = record { are-bytes = commit-bytes; opens = r .opens; dones = tt; below = commit-below }

@@ -16,7 +16,7 @@ use Rattle.model.specs.Section.{Log, NodeList, Section}
 use Rattle.model.specs.Opened.{opened}
 use Rattle.model.specs.Means.{Inside, Chain, Headed, entries-of, log-row, Logs, Marked, Numbered, Stands, Means}
 use Rattle.model.specs.Laws.{but-last, last-fragment, list-footprint, log-footprint, Footprint, in-header, in-log, in-list}
-use Rattle.meaning.proofs.Members.{has-from-in, all-in, all-from-in}
+use Rattle.meaning.proofs.Members.{In, has-from-in, all-in, all-from-in}
 use Rattle.meaning.proofs.Frames.{le-in, piece-in}
 use Rattle.meaning.proofs.Local.{Agree, span-local, spread-local}
 use Rattle.meaning.proofs.MeantOpens.{means-opens-in-order}
@@ -150,14 +150,16 @@ module _ (b c : List ℕ) where
   means-same : (s : Section) → s .header .end ≤ length c → ((i : ℕ) → Footprint s i → getD c i 0 ≡ getD b i 0) → Means b s → Means c s
   means-same s n h m =
       let stored = m .header .stored in
+      let logs : All (Alike b c) (log-footprint (s .log))
+      = all-from-in (Alike b c) (log-footprint (s .log)) (λ r j i x y. sym (h i (in-log (has-from-in (log-footprint (s .log)) r j) (x, y)))) in
+      let list : (l : NodeList) → In l (s .lists) → All (Alike b c) (list-footprint l)
+      = λ l j. all-from-in (Alike b c) (list-footprint l) (λ r k i x y. sym (h i (in-list (has-from-in (s .lists) l j) (has-from-in (list-footprint l) r k) (x, y)))) in
+      let stands : (l : NodeList) → In l (s .lists) → Stands c (s .header) (s .log) l
+      = λ l j. stands-same s l stored n (list-end m l j) (list l j) (all-in (Stands b (s .header) (s .log)) (s .lists) l (m .lists) j) in
       record {
         header = headed-same (s .header) (λ i l k. sym (h i (in-header (l, k)))) n (m .header);
-        log = logs-same (s .header) (s .log)
-            (all-from-in (Alike b c) (log-footprint (s .log)) (λ r j i l k. sym (h i (in-log (has-from-in (log-footprint (s .log)) r j) (l, k))))) (m .log);
-        lists = all-from-in (Stands c (s .header) (s .log)) (s .lists) (λ l j.
-            stands-same s l stored n (list-end m l j)
-            (all-from-in (Alike b c) (list-footprint l) (λ r k i x y. sym (h i (in-list (has-from-in (s .lists) l j) (has-from-in (list-footprint l) r k) (x, y)))))
-            (all-in (Stands b (s .header) (s .log)) (s .lists) l (m .lists) j));
+        log = logs-same (s .header) (s .log) logs (m .log);
+        lists = all-from-in (Stands c (s .header) (s .log)) (s .lists) stands;
         reached = m .reached;
         named = m .named;
         once = m .once;

@@ -66,8 +66,8 @@ module _ (b c : List ℕ) (s : Section) (m : Means b s) (n : s .header .end ≤ 
   data-span : (list : ℕ) (k : Node) → In k (nodes-of (s .lists) list) → (eqb (k .base) 1 && present (k .reference)) ≡ true → In (k .reference) (data-spans (s .lists))
   data-span list k i t =
       let (l, j, w) = nodes-of-in (s .lists) list k i in
-      in-flat (λ (l : NodeList). map (λ (k : Node). k .reference) (referring 1 (l .nodes))) (s .lists) l (k .reference) j
-      (in-map (λ (k : Node). k .reference) (referring 1 (l .nodes)) k (referring-in 1 (l .nodes) k t w))
+      let r = in-map (λ (k : Node). k .reference) (referring 1 (l .nodes)) k (referring-in 1 (l .nodes) k t w) in
+      in-flat (λ (l : NodeList). map (λ (k : Node). k .reference) (referring 1 (l .nodes))) (s .lists) l (k .reference) j r
 
   data-same : (list place size : ℕ) (k : Node) → In k (nodes-of (s .lists) list) ⊎ (k ≡ no-node) → place + size ≤ data-of k .size
       → piece c (data-of k .start + place) size ≡ piece b (data-of k .start + place) size

@@ -20,17 +20,25 @@ use Rattle.lasting.proofs.Effects.{open-state, Does, stays, rests, grows, ends
 use Rattle.lasting.proofs.Opening.{sees}
 use Rattle.lasting.proofs.InDraft.{drafted-bytes, Drafting, committed-bytes, mid-same, rested, next-taken, next-same, next-is, next-drafting, commit-taken, committed-drafting}
 
+-- the call c keeps the state st, whose count is n, sound, and each look to a k up to n
+abbrev Steps-from : Call → ℕ → State → ℕ → Type 0
+Steps-from c ceiling st n = Sound (after st c) (n + commits (answer st c)) ceiling × ((k : ℕ) → 1 ≤ k → k ≤ n → Look-alike k (after st c) st)
+
+-- and every look, if it commits nothing
+abbrev Quiet-from : Call → ℕ → State → ℕ → Type 0
+Quiet-from c ceiling st n = commits (answer st c) ≡ 0 → Sound (after st c) n ceiling × ((l : Look) → answer (after st c) (looking l) ≡ answer st (looking l))
+
 -- a state of an opened file over which such a draft stands is sound
-sound-at : {ceiling : ℕ} {b : List ℕ} {s : Section} (st : State) (d : Access) (n : ℕ) → Drafting ceiling b s (adds-of (d .draft))
-    → st .ceiling ≡ ceiling → st .access ≡ Some d → st .bytes ≡ drafted-bytes b s (adds-of (d .draft)) → s .header .count ≡ n → Sound st n ceiling
-sound-at {ceiling} {b} {s} st d n x y z e k = record {
+sound-at : {ceiling : ℕ} {b : List ℕ} {s : Section} (st : State) (d : Access) → Drafting ceiling b s (adds-of (d .draft))
+    → st .ceiling ≡ ceiling → st .access ≡ Some d → st .bytes ≡ drafted-bytes b s (adds-of (d .draft)) → Sound st (s .header .count) ceiling
+sound-at {ceiling} {b} {s} st d x y z e = record {
   access = d;
   open′ = z;
   start = b;
   section = s;
   are-bytes = x .are-bytes;
   finished = x .opens;
-  count = k;
+  count = refl;
   same-ceiling = y;
   below-ceiling = subst (λ r. length r ≤ ceiling) (sym e) (x .below);
   adds = x .dones;
@@ -71,30 +79,29 @@ module _ {ceiling : ℕ} {b : List ℕ} {s : Section} (d : Access) (x : Drafting
 
   -- an effect that commits nothing keeps the count, and every look
   abbrev Quiet : Outcome Effect → Type 0
-  Quiet o = ((n : ℕ) → s .header .count ≡ n → Sound (then-state o) n ceiling) × ((l : Look) → answer (then-state o) (looking l) ≡ answer here (looking l))
+  Quiet o = Sound (then-state o) (s .header .count) ceiling × ((l : Look) → answer (then-state o) (looking l) ≡ answer here (looking l))
 
   quiet : (c : Call) (o : Outcome Effect) → Does ceiling mid s d c o → commits (answer-of o) ≡ 0 → Quiet o
   unfolding applied
   quiet c o (stays i j k) q =
       let e = unchanged o j k in (
-        λ n u. subst (λ (st : State). Sound st n ceiling) (sym e) (sound-at here d n x refl refl refl u),
+        subst (λ (st : State). Sound st (s .header .count) ceiling) (sym e) (sound-at here d x refl refl refl),
         λ l. ap (λ (st : State). answer st (looking l)) e,
       )
   quiet c o (rests a n draft i j) q =
       let then-d : Access = record { mark = d .mark; begins = n; draft = draft } in
       let at-rest = subst (Drafting ceiling mid s) (sym j) (rested x) in (
-        λ n u. sound-at (open-state ceiling mid then-d) then-d n at-rest refl refl (ap (drafted-bytes mid s) (sym j)) u,
+        sound-at (open-state ceiling mid then-d) then-d at-rest refl refl (ap (drafted-bytes mid s) (sym j)),
         λ l. sees ceiling mid then-d l ∙ sym (sees ceiling mid d l),
       )
   quiet c o (grows token a y i fit p) q =
       let then-d : Access = record { mark = d .mark; begins = d .begins; draft = Some (adds ++ (a ∷ [])) } in (
-        λ n u. sound-at (open-state ceiling _ then-d) then-d n (next-drafting x a fit p) refl refl (next-is x a fit p) u,
+        sound-at (open-state ceiling _ then-d) then-d (next-drafting x a fit p) refl refl (next-is x a fit p),
         λ l. sees ceiling _ then-d l ∙ ap saw (next-same x a fit p .looks l) ∙ sym (sees ceiling mid d l),
       )
   quiet c o (ends token guid i j p) q = absurd (omega arith)
 
-  quiet-here : (c : Call) → Fit c → commits (answer here c) ≡ 0
-      → ((n : ℕ) → s .header .count ≡ n → Sound (after here c) n ceiling) × ((l : Look) → answer (after here c) (looking l) ≡ answer here (looking l))
+  quiet-here : (c : Call) → Fit c → Quiet-from c ceiling here (s .header .count)
   unfolding answer after writes
   quiet-here c fit q = quiet c (effect here c) (does-here c fit) q
 
@@ -103,7 +110,9 @@ module _ {ceiling : ℕ} {b : List ℕ} {s : Section} (d : Access) (x : Drafting
     Stepped o = Sound (then-state o) (s .header .count + commits (answer-of o)) ceiling × ((k : ℕ) → 1 ≤ k → k ≤ s .header .count → Look-alike k (then-state o) here)
 
     from-quiet : (o : Outcome Effect) → commits (answer-of o) ≡ 0 → Quiet o → Stepped o
-    from-quiet o e q = (q .0 (s .header .count + commits (answer-of o)) (omega arith), λ k one h l r. q .1 l)
+    from-quiet o e q =
+        let n : s .header .count ≡ s .header .count + commits (answer-of o) = omega arith in
+        (subst (λ n. Sound (then-state o) n ceiling) n (q .0), λ k one h l r. q .1 l)
 
     stepped : (c : Call) (o : Outcome Effect) → Does ceiling mid s d c o → Stepped o
     unfolding applied
@@ -114,15 +123,14 @@ module _ {ceiling : ℕ} {b : List ℕ} {s : Section} (d : Access) (x : Drafting
         let then-d : Access = record { mark = d .mark; begins = d .begins; draft = None } in
         let new = committed-bytes b s adds guid in
         let r = reads b ceiling s adds guid (x .are-bytes) i j (x .opens) (x .dones) p in (
-          sound-at (open-state ceiling new then-d) then-d (s .header .count + 1) (committed-drafting x guid i j p r) refl refl refl (r .count),
+          subst (λ n. Sound (open-state ceiling new then-d) n ceiling) (r .count) (sound-at (open-state ceiling new then-d) then-d (committed-drafting x guid i j p r) refl refl refl),
           λ k one h l q.
               sees ceiling new then-d l
               ∙ ap saw (grow b ceiling s adds guid (x .are-bytes) i j (x .opens) (x .dones) p l (omega arith) (omega arith) ∙ sym (mid-same x .looks l))
               ∙ sym (sees ceiling mid d l),
         )
 
-    steps-here : (c : Call) → Fit c
-        → Sound (after here c) (s .header .count + commits (answer here c)) ceiling × ((k : ℕ) → 1 ≤ k → k ≤ s .header .count → Look-alike k (after here c) here)
+    steps-here : (c : Call) → Fit c → Steps-from c ceiling here (s .header .count)
     unfolding answer after writes
     steps-here c fit = stepped c (effect here c) (does-here c fit)
 
@@ -149,20 +157,15 @@ of-sound {st} {n} {ceiling} P k p =
     subst (P st) (k .count) (subst (λ (x : State). P x (k .section .header .count)) (sym e) p)
 
 pub steps-sound : Commit-reads → Looks-grow → Steps-sound
-steps-sound reads grow st n ceiling c k fit =
-    of-sound (λ x m. Sound (after x c) (m + commits (answer x c)) ceiling × ((i : ℕ) → 1 ≤ i → i ≤ m → Look-alike i (after x c) x)) k
-    (steps-here (k .access) (sound-drafting k) reads grow c fit)
+steps-sound reads grow st n ceiling c k fit = of-sound (Steps-from c ceiling) k (steps-here (k .access) (sound-drafting k) reads grow c fit)
 
 -- the store takes each write of the next call
 pub sound-takes : {st : State} {n ceiling : ℕ} (c : Call) → Sound st n ceiling → Fit c → Taken (length (st .bytes)) ceiling (writes st c)
 sound-takes {ceiling = ceiling} c k fit = of-sound (λ x m. Taken (length (x .bytes)) ceiling (writes x c)) k (takes-here (k .access) (sound-drafting k) c fit)
 
 -- a call that commits nothing is not seen
-unseen : {st : State} {n ceiling : ℕ} (c : Call) → Sound st n ceiling → Fit c → commits (answer st c) ≡ 0
-    → Sound (after st c) n ceiling × ((l : Look) → answer (after st c) (looking l) ≡ answer st (looking l))
-unseen {ceiling = ceiling} c k fit =
-    of-sound (λ x m. commits (answer x c) ≡ 0 → Sound (after x c) m ceiling × ((l : Look) → answer (after x c) (looking l) ≡ answer x (looking l))) k
-    (λ q. let (u, v) = quiet-here (k .access) (sound-drafting k) c fit q in (u (k .section .header .count) refl, v))
+unseen : {st : State} {n ceiling : ℕ} (c : Call) → Sound st n ceiling → Fit c → Quiet-from c ceiling st n
+unseen {ceiling = ceiling} c k fit = of-sound (Quiet-from c ceiling) k (quiet-here (k .access) (sound-drafting k) c fit)
 
 pub drafts-unseen : Drafts-unseen
 drafts-unseen s n ceiling k [] u l = refl
