@@ -88,12 +88,14 @@ grown-more u (fresh e) f h = fresh (rw f e)
 
 -- the old fragment's terminator and next reference
 module _ {s : Section} {a b : ℕ} {t : Tail} (x : Tail-held s a t) (h : a ≤ b) where
+  steps-terminator : t .free + 4 ≤ nodes-to (t .fragment) → Steps s b b (put (t .free) terminator ∷ [])
+  steps-terminator k =
+      let n = length-digits 4 0x800010FF in
+      steps-within (t .free) terminator (omega arith) (digits-bytes 4 0x800010FF) (λ i u v. tail-free (x .grown) (x .free-from) i u (omega arith))
+
   steps-close : Steps s b b (cond (leb (t .free + 4) (nodes-to (t .fragment))) (put (t .free) terminator ∷ []) [])
   steps-close =
-      let n = length-digits 4 0x800010FF in
-      let room : leb (t .free + 4) (nodes-to (t .fragment)) ≡ true → Steps s b b (put (t .free) terminator ∷ []) = λ e.
-      let k = leb-true (t .free + 4) (nodes-to (t .fragment)) e in
-      steps-within (t .free) terminator (omega arith) (digits-bytes 4 0x800010FF) (λ i u v. tail-free (x .grown) (x .free-from) i u (omega arith)) in
+      let room = λ (e : leb (t .free + 4) (nodes-to (t .fragment)) ≡ true). steps-terminator (leb-true (t .free + 4) (nodes-to (t .fragment)) e) in
       cond-both (leb (t .free + 4) (nodes-to (t .fragment))) (put (t .free) terminator ∷ []) [] (Steps s b b) room (λ e. steps-none)
 
   steps-next : (r : Span) → Steps s b b (put (nodes-to (t .fragment)) (span-bytes r) ∷ [])
@@ -151,11 +153,12 @@ held-later {s} {y} end d h = record { end = omega arith; tails = tails-later s (
 
 held-list : {s : Section} {y : Layout} (parent made end size : ℕ) → Draft-held s y → size ≤ 988 → y .end + 1024 ≤ end
     → Draft-held s (more-lists parent (tail made (span (y .end) 1024) 0 (nodes-from (span (y .end) 1024) + size) 1) (more-fragments (ending-at end y)))
-held-list {s} {y} parent made end size d small h = record {
-  end = omega arith;
-  tails = all-append (Tail-held s end) (y .tails) _ (tails-later s (y .end) end (y .tails) (omega arith) (d .tails))
-      (record { grown = fresh (d .end); size = omega arith; to = h; free-from = omega arith; free-to = omega arith }, tt);
-}
+held-list {s} {y} parent made end size d small h =
+    let f = span (y .end) 1024 in
+    let t : Tail = tail made f 0 (nodes-from f + size) 1 in
+    let old-tails = tails-later s (y .end) end (y .tails) (omega arith) (d .tails) in
+    let held : Tail-held s end t = record { grown = fresh (d .end); size = omega arith; to = h; free-from = omega arith; free-to = omega arith } in
+    record { end = omega arith; tails = all-append (Tail-held s end) (y .tails) (t ∷ []) old-tails (held, tt) }
 
 -- ADD: one that passes its checks keeps what is known of the draft, and writes to the free zone
 pub kept-planned : {s : Section} {y : Layout} (ceiling : ℕ) (a : Add) → Draft-held s y → Fit-add a → Clean (add-checks ceiling y a) → Kept s y (planned y a)

@@ -23,35 +23,25 @@ cross-in : (fs gs : List Span) (f g : Span) → Cross Apart fs gs → In f fs �
 cross-in fs gs f g c i j = all-in (Apart f) gs g (all-in (λ (x : Span). All (Apart x) gs) fs f c i) j
 
 -- a place is in the fragments of one list only
+not-later : (n : NodeList) (ns : List NodeList) (k : NodeList) (f g : Span) (i : ℕ) → Pairwise Apart (list-fragments (n ∷ ns)) → In k ns
+    → In f (n .fragments) → In g (k .fragments) → Within f i → Within g i → ⊥
+not-later n ns k f g i p j u v a c =
+    let across = pairs-split Apart (n .fragments) (list-fragments ns) p .2 in
+    cross-in (n .fragments) (list-fragments ns) f g across u (in-flat (λ (w : NodeList). w .fragments) ns k g j v) i a c
+
 one-list : (ls : List NodeList) (l k : NodeList) (f g : Span) (i : ℕ) → Pairwise Apart (list-fragments ls) → In l ls → In k ls
     → In f (l .fragments) → In g (k .fragments) → Within f i → Within g i → l ≡ k
 one-list [] l k f g i p x y u v a c = absurd x
-one-list (n ∷ ns) l k f g i p x y u v a c =
-    let (own, rest, across) = pairs-split Apart (n .fragments) (list-fragments ns) p in
-    let not-both : (l k : NodeList) (f g : Span) → n ≡ l → In k ns → In f (l .fragments) → In g (k .fragments) → Within f i → Within g i → ⊥
-    = λ l k f g d j u v a c.
-    let in-n = subst (λ (w : NodeList). In f (w .fragments)) (sym d) u in
-    cross-in (n .fragments) (list-fragments ns) f g across in-n (in-flat (λ (w : NodeList). w .fragments) ns k g j v) i a c in
-    elim x [
-      | inl d ↦ elim y [
-        | inl e ↦ sym d ∙ e
-        | inr j ↦ absurd (not-both l k f g d j u v a c)
-      ]
-      | inr j ↦ elim y [
-        | inl e ↦ absurd (not-both k l g f e j v u c a)
-        | inr h ↦ one-list ns l k f g i rest j h u v a c
-      ]
-    ]
+one-list (n ∷ ns) l k f g i p (inl d) (inl e) u v a c = sym d ∙ e
+one-list (n ∷ ns) l k f g i p (inl d) (inr j) u v a c = absurd (not-later n ns k f g i p j (subst (λ (w : NodeList). In f (w .fragments)) (sym d) u) v a c)
+one-list (n ∷ ns) l k f g i p (inr j) (inl e) u v a c = absurd (not-later n ns l g f i p j (subst (λ (w : NodeList). In g (w .fragments)) (sym e) v) u c a)
+one-list (n ∷ ns) l k f g i p (inr j) (inr h) u v a c = one-list ns l k f g i (pairs-split Apart (n .fragments) (list-fragments ns) p .1) j h u v a c
 
 -- the fragments of each list
 each-list : (ls : List NodeList) (l : NodeList) → Pairwise Apart (list-fragments ls) → In l ls → Pairwise Apart (l .fragments)
 each-list [] l p x = absurd x
-each-list (n ∷ ns) l p x =
-    let (own, rest, across) = pairs-split Apart (n .fragments) (list-fragments ns) p in
-    elim x [
-      | inl e ↦ subst (λ (w : NodeList). Pairwise Apart (w .fragments)) e own
-      | inr j ↦ each-list ns l rest j
-    ]
+each-list (n ∷ ns) l p (inl e) = subst (λ (w : NodeList). Pairwise Apart (w .fragments)) e (pairs-split Apart (n .fragments) (list-fragments ns) p .0)
+each-list (n ∷ ns) l p (inr j) = each-list ns l (pairs-split Apart (n .fragments) (list-fragments ns) p .1) j
 
 -- ---- where a place of the footprint stands
 
