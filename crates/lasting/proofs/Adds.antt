@@ -22,7 +22,7 @@ use Rattle.model.specs.Layouts.{Add, plain, with-data, branch, Tail, tail, Layo
 use Rattle.model.specs.Saving.{at-end, Plan, after-write, fitting, spilling, with-node, planned}
 use Rattle.model.specs.Calls.{add-checks}
 use Rattle.model.specs.Journal.{Fit-add}
-use Rattle.model.specs.Laws.{last-fragment, Free, past-end, in-list}
+use Rattle.model.specs.Laws.{past-end, in-list, last-fragment, Free}
 use Rattle.meaning.proofs.Base.{Clean}
 use Rattle.meaning.proofs.Members.{In, has-from-in}
 use Rattle.lasting.proofs.Sizes.{length-digits, length-span-bytes, length-plain, length-referring, length-new-fragment, piece-ends, digits-bytes, span-bytes-bytes, plain-bytes, referring-bytes, fragment-bytes}

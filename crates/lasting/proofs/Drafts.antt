@@ -21,10 +21,10 @@ use Rattle.model.specs.Section.{NodeList, Section}
 use Rattle.model.specs.Opened.{opened}
 use Rattle.model.specs.Layouts.{Add, Layout, tail-of, blank}
 use Rattle.model.specs.Saving.{at-end, plan, planned, laid, layout}
-use Rattle.model.specs.Committing.{if-any, new-entries, logged}
+use Rattle.model.specs.Committing.{new-entries, if-any, logged}
 use Rattle.model.specs.Calls.{add-checks}
 use Rattle.model.specs.Journal.{Fit-add}
-use Rattle.model.specs.Laws.{last-fragment, in-log, Writes-free, Done-adds, add-writes, Drafts-write-free}
+use Rattle.model.specs.Laws.{in-log, last-fragment, Writes-free, Done-adds, add-writes, Drafts-write-free}
 use Rattle.meaning.proofs.Base.{Clean}
 use Rattle.meaning.proofs.Members.{In, all-from-in}
 use Rattle.lasting.proofs.Places.{meant, Log-end, list-end, log-end}

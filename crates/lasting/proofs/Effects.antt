@@ -8,8 +8,9 @@ use lib.Dec.{eqb, leb}
 use lib.ListN.{length}
 use Rattle.std.specs.declared.option.Option.{Option}
 use Rattle.std.specs.declared.option.Option.the-variants.{Some, None}
+use Rattle.model.specs.declared.types.Fault.{Fault}
 use Rattle.model.specs.Bytes.{Bytes}
-use Rattle.model.specs.Faults.{Fault, Outcome, done, refused, Check, unless, then}
+use Rattle.model.specs.Faults.{Outcome, done, refused, Check, unless, then}
 use Rattle.model.specs.Section.{Section}
 use Rattle.model.specs.Opened.{opened}
 use Rattle.model.specs.Layouts.{Add, plain, with-data, branch, Layout}

@@ -11,7 +11,7 @@ use Rattle.model.specs.References.{end-of}
 use Rattle.model.specs.Headers.{header-span}
 use Rattle.model.specs.Section.{NodeList, Section, list-fragments, fragments-of}
 use Rattle.model.specs.Means.{Within, Apart, Pairwise, data-spans, Means}
-use Rattle.model.specs.Laws.{but-last, last-fragment, list-footprint, log-footprint, Footprint, in-header, in-log, in-list, in-data, past-end, Free-apart}
+use Rattle.model.specs.Laws.{past-end, in-header, in-log, in-list, in-data, but-last, last-fragment, list-footprint, log-footprint, Footprint, Free-apart}
 use Rattle.meaning.proofs.Base.{Cross, pairs-split}
 use Rattle.meaning.proofs.Members.{In, in-from-has, in-left, in-flat, all-in}
 use Rattle.lasting.proofs.Chains.{in-but-last, last-apart}

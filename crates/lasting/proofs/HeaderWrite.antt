@@ -8,8 +8,8 @@ use lib.ListN.{length, take}
 use Rattle.std.specs.shelf.Lists.{All}
 use Rattle.std.proofs.shelf.Lists.{length-take}
 use Rattle.std.proofs.shelf.Elements.{all-take}
+use Rattle.model.specs.declared.types.Header.{Header}
 use Rattle.model.specs.Bytes.{digits, Write, put, Bytes}
-use Rattle.model.specs.Headers.{Header}
 use Rattle.model.specs.Committing.{header-write}
 use Rattle.model.specs.Cuts.{Writes-header}
 use Rattle.model.specs.Laws.{Taken}

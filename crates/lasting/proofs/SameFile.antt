@@ -7,15 +7,16 @@ use native.Mathlib.Omega.{arith}
 use lib.ListN.{length, getD}
 use Rattle.std.specs.shelf.Lists.{All}
 use Rattle.model.specs.declared.types.Span.{Span}
+use Rattle.model.specs.declared.types.Header.{Header}
 use Rattle.model.specs.Bytes.{piece, Same}
 use Rattle.model.specs.Faults.{done}
 use Rattle.model.specs.References.{span, end-of, span-at}
-use Rattle.model.specs.Headers.{Header, header-at}
+use Rattle.model.specs.Headers.{header-at}
 use Rattle.model.specs.LogFragments.{entry-at, entries-in, entry-place, log-next}
 use Rattle.model.specs.Section.{Log, NodeList, Section}
 use Rattle.model.specs.Opened.{opened}
 use Rattle.model.specs.Means.{Inside, Chain, Headed, entries-of, log-row, Logs, Marked, Numbered, Stands, Means}
-use Rattle.model.specs.Laws.{but-last, last-fragment, list-footprint, log-footprint, Footprint, in-header, in-log, in-list}
+use Rattle.model.specs.Laws.{in-header, in-log, in-list, but-last, last-fragment, list-footprint, log-footprint, Footprint}
 use Rattle.meaning.proofs.Members.{In, has-from-in, all-in, all-from-in}
 use Rattle.meaning.proofs.Frames.{le-in, piece-in}
 use Rattle.meaning.proofs.Local.{Agree, span-local, spread-local}

@@ -21,7 +21,7 @@ use Rattle.model.specs.Opened.{opened}
 use Rattle.model.specs.Means.{data-spans, Means}
 use Rattle.model.specs.Looks.{Look, node-look, data-look, alike, bytes, no-node, nodes-of, node-of, reference-of, data-of, seen-in, answered, look}
 use Rattle.model.specs.Contents.{content-of, holds, held}
-use Rattle.model.specs.Laws.{Footprint, in-data, Local}
+use Rattle.model.specs.Laws.{in-data, Footprint, Local}
 use Rattle.meaning.proofs.Base.{unless-done}
 use Rattle.meaning.proofs.Members.{In, has-from-in, in-map, in-flat, all-in}
 use Rattle.meaning.proofs.Frames.{piece-in}

@@ -11,7 +11,7 @@ use Rattle.model.specs.Bytes.{Write, put, behind, Bytes}
 use Rattle.model.specs.Section.{Section}
 use Rattle.model.specs.Layouts.{Layout}
 use Rattle.model.specs.Saving.{at-end}
-use Rattle.model.specs.Laws.{Free, past-end, Writes-free, Taken}
+use Rattle.model.specs.Laws.{past-end, Free, Writes-free, Taken}
 use Rattle.lasting.proofs.Rows.{length-after, length-after-append, taken-append}
 use Rattle.lasting.proofs.Sizes.{piece-bytes}
 

@@ -15,7 +15,7 @@ use Rattle.model.specs.Opened.{opened}
 use Rattle.model.specs.Looks.{Look, look}
 use Rattle.model.specs.Cuts.{Writes-header, Cut, old-header, new-header, torn}
 use Rattle.model.specs.Contents.{held}
-use Rattle.model.specs.Laws.{Footprint, in-header, Free, Writes-free, Taken}
+use Rattle.model.specs.Laws.{in-header, Footprint, Free, Writes-free, Taken}
 use Rattle.meaning.proofs.Base.{all-front}
 use Rattle.lasting.proofs.Places.{meant}
 use Rattle.lasting.proofs.SameLooks.{local, held-same}
