@@ -74,7 +74,8 @@ fn scaled(format: u32, n: u64) -> u64
 
 /// How many bytes a node's reference takes.
 pub fn width(stp: u32, cb: u32) -> usize
-    ensures { λ r. ⌜ r ≡ start-width stp + size-width cb ⌝ }
+    ensures value { λ r. ⌜ r ≡ start-width stp + size-width cb ⌝ }
+    ensures bound { λ r. ⌜ r ≤ 16 ⌝ }
 {
     start_width(stp) + size_width(cb)
 }

@@ -1,0 +1,83 @@
+//! The data references of all lists, one after the other: each ends by the file's end, and shares no byte with the header or a fragment.
+ghost use Prim.Native.Nat.{_+_, _^_, _≤_};
+use crate::faults::InList;
+use crate::faults::ListFault;
+use crate::node_walk::is_bad;
+use crate::node_walk::node_before;
+use crate::node_walk::nodes_from;
+use crate::node_walk::nodes_to;
+use crate::room::Room;
+use crate::room::Row;
+use crate::room::is_in_header;
+use crate::room::passes;
+use format::references::is_absent;
+use model::types::Span;
+use store::base::Store;
+
+pub(crate) fn check_data<S: Store>(store: &S, end: u64, room: &Room) -> Result<(), InList>
+    requires { ⌜ end ≤ 2 ^ 40 ⌝ }
+{
+    for row in &room.lists {
+        check_list(store, end, room, *row)?;
+    }
+    Ok(())
+}
+
+// The data references of a list, fragment by fragment.
+fn check_list<S: Store>(store: &S, end: u64, room: &Room, row: Row) -> Result<(), InList>
+    requires { ⌜ end ≤ 2 ^ 40 ⌝ }
+{
+    let mut left = row.nodes;
+    for i in 0..row.fragments {
+        let Some(at) = row.first.checked_add(i) else {
+            return Ok(());
+        };
+        let Some(fragment) = room.fragments.get(at).copied() else {
+            return Ok(());
+        };
+        if fragment.size < 36 || passes(end, fragment) {
+            return Ok(());
+        }
+        left = check_nodes(store, end, room, row.id, fragment, left)?;
+    }
+    Ok(())
+}
+
+// Those of a fragment's nodes, at most `left`; answers how many nodes are left.
+fn check_nodes<S: Store>(
+    store: &S,
+    end: u64,
+    room: &Room,
+    list: u32,
+    fragment: Span,
+    left: u32,
+) -> Result<u32, InList>
+    requires inside { ⌜ fragment .start + fragment .size ≤ 2 ^ 40 ⌝ }
+    requires least { ⌜ 36 ≤ fragment .size ⌝ }
+{
+    let stop = nodes_to(fragment);
+    let mut place = nodes_from(fragment);
+    for nodes in 0..left {
+        let Some(node) = node_before(store, place, stop) else {
+            return Ok(left - nodes);
+        };
+        if is_bad(&node.head, place, stop) {
+            return Ok(0);
+        }
+        if node.head.base == 1 && !is_absent(node.reference) {
+            check_reference(end, room, list, place + 4, node.reference)?;
+        }
+        place += node.head.size as u64;
+    }
+    Ok(0)
+}
+
+fn check_reference(end: u64, room: &Room, list: u32, field: u64, span: Span) -> Result<(), InList> {
+    if passes(end, span) {
+        return Err(InList { fault: ListFault::Outside { place: field }, list });
+    }
+    if is_in_header(span) || room.ranges.meets(span) {
+        return Err(InList { fault: ListFault::Overlap { place: field }, list });
+    }
+    Ok(())
+}

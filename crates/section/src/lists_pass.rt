@@ -1,0 +1,176 @@
+//! Opening the lists: each that is named, walked whole before the next.
+ghost use mathlib.Core.Path.{_≡_};
+ghost use Prim.Native.Nat.{_+_, _-_, _^_, _≤_, _<_};
+ghost use Rattle.std.specs.Results.{Cases};
+use crate::faults::InList;
+use crate::faults::ListFault;
+use crate::node_walk::is_bad;
+use crate::node_walk::node_before;
+use crate::node_walk::nodes_from;
+use crate::node_walk::nodes_to;
+use crate::room::MOST_FRAGMENTS;
+use crate::room::MOST_LISTS;
+use crate::room::Misplaced;
+use crate::room::Named;
+use crate::room::Room;
+use crate::room::Row;
+use crate::room::is_outside;
+use format::fetching::u32_at;
+use format::fetching::u64_at;
+use format::references::is_absent;
+use format::references::span_at;
+use model::types::Header;
+use model::types::Span;
+use store::base::Store;
+
+// A list fragment has at least this size.
+const LEAST: u64 = 36;
+
+// Where the header refers to the root list and to the hashed chunk list.
+const ROOT_FIELD: u64 = 0xAC;
+const HASHED_FIELD: u64 = 0x94;
+
+// The marks before and behind a fragment.
+const FIRST_MARK: u64 = 0xA456_7AB1_F5F7_F4C4;
+const LAST_MARK: u64 = 0x8BC2_15C3_8233_BA4B;
+
+// List IDs begin here.
+const LEAST_ID: u32 = 16;
+
+// What was read of a fragment's nodes: how many, and the place behind the last of them.
+#[derive(Clone, Copy)]
+struct Part {
+    nodes: u32,
+    free: u64,
+}
+
+// Reads all lists: the root, the hashed chunk list unless it is absent, and then those that are met.
+pub(crate) fn read_lists<S: Store>(store: &S, header: &Header, room: &mut Room) -> Result<(), InList>
+    requires { ⌜ now header .end ≤ 2 ^ 40 ⌝ }
+{
+    room.name(ROOT_FIELD, header.root);
+    if !is_absent(header.hashed) {
+        room.name(HASHED_FIELD, header.hashed);
+    }
+    for next in 0..MOST_LISTS + 1 {
+        if next >= room.queue.len() {
+            return Ok(());
+        }
+        let named = room.queue[next];
+        read_list(store, header.end, room, named)?;
+    }
+    Ok(())
+}
+
+// Reads the list that a reference names, fragment by fragment.
+fn read_list<S: Store>(store: &S, end: u64, room: &mut Room, named: Named) -> Result<(), InList>
+    requires { ⌜ end ≤ 2 ^ 40 ⌝ }
+{
+    if room.lists.len() >= MOST_LISTS {
+        return Err(InList { fault: too_many(end, named), list: 0 });
+    }
+    let first = room.fragments.len();
+    take_in(room, end, named.span, named.field, 0)?;
+    let list = owner(store, named.span);
+    check_fragment(store, named.span, list, 0, 0)?;
+    let count = check_first(room, list, named.span)?;
+    let mut fragment = named.span;
+    let mut nodes = 0;
+    for sequence in 1..=MOST_FRAGMENTS as u32 {
+        let part = read_nodes(store, list, fragment, count - nodes, room)?;
+        nodes += part.nodes;
+        if nodes == count {
+            room.add_list(Row { id: list, first, fragments: sequence as usize, nodes, free: part.free });
+            return Ok(());
+        }
+        let field = nodes_to(fragment);
+        fragment = span_at(store, field);
+        take_in(room, end, fragment, field, list)?;
+        check_fragment(store, fragment, list, sequence, list)?;
+    }
+    Ok(())
+}
+
+// A list that is named when there are as many as there may be.
+fn too_many(end: u64, named: Named) -> ListFault {
+    if is_outside(LEAST, end, named.span) {
+        ListFault::Outside { place: named.field }
+    } else {
+        ListFault::Full { place: named.field }
+    }
+}
+
+// Takes a fragment in whose reference stands at `field`.
+fn take_in(room: &mut Room, end: u64, fragment: Span, field: u64, list: u32) -> Result<(), InList>
+    ensures { λ r. ⌜ Cases r (λ _. (36 ≤ fragment .size) × (fragment .start + fragment .size ≤ end)) (λ _. Unit {0}) ⌝ }
+{
+    let fault = match room.admit(LEAST, end, fragment) {
+        Ok(()) => return Ok(()),
+        Err(Misplaced::Outside) => ListFault::Outside { place: field },
+        Err(Misplaced::Full) => ListFault::Full { place: field },
+        Err(Misplaced::Overlap) => ListFault::Overlap { place: field },
+    };
+    Err(InList { fault, list })
+}
+
+// The list that a fragment belongs to.
+fn owner<S: Store>(store: &S, fragment: Span) -> u32
+    requires { ⌜ fragment .start + fragment .size ≤ 2 ^ 40 ⌝ }
+{
+    u32_at(store, fragment.start + 8)
+}
+
+// Checks a fragment's marks, its list's ID and its number in the list; the list is told once the first fragment has passed.
+fn check_fragment<S: Store>(store: &S, fragment: Span, list: u32, sequence: u32, told: u32) -> Result<(), InList>
+    requires inside { ⌜ fragment .start + fragment .size ≤ 2 ^ 40 ⌝ }
+    requires least { ⌜ 36 ≤ fragment .size ⌝ }
+{
+    let start = fragment.start;
+    if u64_at(store, start) != FIRST_MARK
+        || u64_at(store, start + fragment.size - 8) != LAST_MARK
+        || u32_at(store, start + 12) != sequence
+        || owner(store, fragment) != list
+        || list < LEAST_ID
+    {
+        return Err(InList { fault: ListFault::Fragment { place: start }, list: told });
+    }
+    Ok(())
+}
+
+// At a list's first fragment: no list before it has its ID, and the log counts it. Answers its count.
+fn check_first(room: &Room, list: u32, fragment: Span) -> Result<u32, InList>
+    ensures { λ r. ⌜ Cases r (λ n. 1 ≤ n) (λ _. Unit {0}) ⌝ }
+{
+    let place = fragment.start;
+    if room.has_list(list) {
+        return Err(InList { fault: ListFault::Twice { place }, list });
+    }
+    let count = room.counts.latest(list);
+    if count == 0 {
+        return Err(InList { fault: ListFault::Unlisted { place }, list });
+    }
+    Ok(count)
+}
+
+// Reads a fragment's nodes, at most `left`, and names the lists that they refer to.
+fn read_nodes<S: Store>(store: &S, list: u32, fragment: Span, left: u32, room: &mut Room) -> Result<Part, InList>
+    requires inside { ⌜ fragment .start + fragment .size ≤ 2 ^ 40 ⌝ }
+    requires least { ⌜ 36 ≤ fragment .size ⌝ }
+    ensures { λ r. ⌜ Cases r (λ p. p .nodes ≤ left) (λ _. Unit {0}) ⌝ }
+{
+    let stop = nodes_to(fragment);
+    let mut place = nodes_from(fragment);
+    for nodes in 0..left {
+        let Some(node) = node_before(store, place, stop) else {
+            return Ok(Part { nodes, free: place });
+        };
+        if is_bad(&node.head, place, stop) {
+            return Err(InList { fault: ListFault::Node { place }, list });
+        }
+        if node.head.base == 2 && !is_absent(node.reference) {
+            room.name(place + 4, node.reference);
+        }
+        place += node.head.size as u64;
+    }
+    Ok(Part { nodes: left, free: place })
+}
