@@ -34,6 +34,7 @@ impl StoreFault {
 }
 
 /// What could not be made into a store is handed back, with the reason.
+#[derive(Drop)]
 pub struct NotMade<P> {
     pub parts: P,
     pub fault: StoreFault,
