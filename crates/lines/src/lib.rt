@@ -1,4 +1,6 @@
 //! The lines of a listing: numbers in columns of 12.
+pub mod words;
+
 use column::column;
 use model::types::Fault;
 use section::files::Figures;
