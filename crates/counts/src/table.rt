@@ -1,106 +1,182 @@
 //! The changes in the order of the log, and the lists in the order of their IDs.
+ghost use mathlib.Core.Path.{_≡_};
+ghost use mathlib.Core.Bool.{cond, false};
+ghost use mathlib.Core.List.{_++_, [], _∷_};
+ghost use Prim.Native.Nat.{ℕ, _+_, _-_, _^_, _≤_, _<_, min};
+ghost use lib.Dec.{ltb};
+ghost use lib.ListN.{getD, take};
+ghost use Rattle.std.specs.Of.Vec.{vec-items, vec-len, vec-cap};
+ghost use Rattle.std.specs.Vec.{made};
+ghost use Rattle.counts.specs.Noted.{change, noted, noted-at, noted-most};
+ghost use Rattle.counts.specs.Chains.{list-at, id-at, newest-in, listed, count-to, later};
+use crate::chains::newest_at;
+use crate::chains::place_of;
+use crate::chains::set_newest;
 use crate::changes::Change;
 use crate::changes::Counted;
 use std::alloc::AllocError;
 use std::alloc::Global;
 
+// So many transactions are counted; no log can have more, since each takes bytes of a file.
+const LAST: u64 = 1 << 63;
+
+// `links` has for each change one more than the index of its list's change before it, and 0 for none.
 #[derive(Drop)]
 pub struct Counts {
     changes: Vec<Change>,
+    links: Vec<usize>,
     lists: Vec<Counted>,
     room: usize,
+    finished: u64,
+    highest: u32,
+    ghost changes_room: { (vec-len changes ≤ room) × (room ≤ vec-cap changes) },
+    ghost links_room: { (vec-len links ≡ vec-len changes) × (room ≤ vec-cap links) },
+    ghost lists_room: { (vec-len lists ≤ vec-len changes) × (room ≤ vec-cap lists) },
+    ghost countable: { finished ≤ 2 ^ 63 },
+    ghost rises: { (i j : ℕ) → (i < j) × (j < vec-len lists) → id-at (vec-items lists) i < id-at (vec-items lists) j },
+    ghost newest: { (id : ℕ) → listed id (vec-items lists) ≡ newest-in id (vec-items changes) (vec-len changes) },
+    ghost linked: { (i : ℕ) → i < vec-len changes → getD (vec-items links) i 0 ≡ newest-in (list-at (vec-items changes) i) (vec-items changes) i },
+    ghost most: { highest ≡ noted-most (vec-items changes) },
 }
 
 impl Counts {
     /// No counts, with room for `room` changes.
-    pub fn new(heap: Global, room: usize) -> Result<Counts, AllocError> {
+    pub fn new(heap: Global, room: usize) -> Result<Counts, AllocError>
+        ensures { λ r. ⌜ made r (λ t. (vec-items (t .changes) ≡ []) × (vec-len (t .changes) ≡ 0) × (t .room ≡ room) × (t .finished ≡ 0)) ⌝ }
+    {
         Ok(Counts {
             changes: Vec::with_capacity(heap, room)?,
+            links: Vec::with_capacity(heap, room)?,
             lists: Vec::with_capacity(heap, room)?,
             room,
+            finished: 0,
+            highest: 0,
         })
     }
 
-    /// Lets all counts go.
-    pub fn clear(&mut self) {
+    /// Lets all counts go, and all transactions.
+    pub fn clear(&mut self)
+        ensures changes { λ _. ⌜ vec-items (now (self .exit) .changes) ≡ [] ⌝ }
+        ensures len { λ _. ⌜ vec-len (now (self .exit) .changes) ≡ 0 ⌝ }
+        ensures room { λ _. ⌜ now (self .exit) .room ≡ now (self .entry) .room ⌝ }
+        ensures finished { λ _. ⌜ now (self .exit) .finished ≡ 0 ⌝ }
+    {
         self.changes.clear();
+        self.links.clear();
         self.lists.clear();
+        self.finished = 0;
+        self.highest = 0;
     }
 
-    // The index of the first list whose ID is not below `list`.
-    fn place_of(&self, list: u32) -> usize {
-        let mut low = 0;
-        let mut high = self.lists.len();
-        while low < high {
-            let middle = low + (high - low) / 2;
-            if self.lists[middle].list < list {
-                low = middle + 1;
-            } else {
-                high = middle;
-            }
+    /// How many transactions are finished.
+    pub fn finished(&self) -> u64
+        ensures { λ r. ⌜ r ≡ now (self .entry) .finished ⌝ }
+    {
+        self.finished
+    }
+
+    /// The highest ID of a list that was given a count; 0 for none.
+    pub fn highest(&self) -> u32
+        ensures { λ r. ⌜ r ≡ noted-most (vec-items (now (self .entry) .changes)) ⌝ }
+    {
+        self.highest
+    }
+
+    /// One transaction more is finished.
+    pub fn finish(&mut self)
+        ensures finished { λ _. ⌜ now (self .exit) .finished ≡ min (now (self .entry) .finished + 1) (2 ^ 63) ⌝ }
+        ensures changes { λ _. ⌜ now (self .exit) .changes ≡ now (self .entry) .changes ⌝ }
+        ensures room { λ _. ⌜ now (self .exit) .room ≡ now (self .entry) .room ⌝ }
+    {
+        if self.finished < LAST {
+            self.finished += 1;
         }
-        low
     }
 
-    // The index of the newest change of a list, one more than it; 0 for none.
-    fn newest(&self, list: u32) -> usize {
-        let i = self.place_of(list);
-        if i < self.lists.len() && self.lists[i].list == list {
-            self.lists[i].newest.saturating_add(1)
-        } else {
-            0
-        }
+    // One more than the index of a list's newest change; 0 for none. No change behind it says anything of that list.
+    fn newest(&self, list: u32) -> usize
+        ensures within { λ r. ⌜ r ≤ vec-len (now (self .entry) .changes) ⌝ }
+        ensures is { λ r. ⌜ (0 < r → list-at (vec-items (now (self .entry) .changes)) (r - 1) ≡ list) ⌝ }
+        ensures noted { λ r. ⌜ noted (vec-items (now (self .entry) .changes)) list ≡ count-to (vec-items (now (self .entry) .changes)) r ⌝ }
+        ensures noted_at { λ r. ⌜ ((k : ℕ) → noted-at (vec-items (now (self .entry) .changes)) k list ≡ noted-at (take r (vec-items (now (self .entry) .changes))) k list) ⌝ }
+    {
+        let i = place_of(&self.lists, list);
+        newest_at(&self.lists, i, list)
     }
 
-    /// A list's newest count; 0 for a list that was never counted.
-    pub fn latest(&self, list: u32) -> u32 {
-        let newest = self.newest(list);
-        if newest == 0 || newest > self.changes.len() {
-            return 0;
-        }
-        self.changes[newest - 1].count
+    // The count that a change gives, by one more than its index; 0 for none.
+    fn count_of(&self, at: usize) -> u32
+        requires { ⌜ at ≤ vec-len (now self .changes) ⌝ }
+        ensures { λ r. ⌜ r ≡ count-to (vec-items (now (self .entry) .changes)) at ⌝ }
+    {
+        if at == 0 { 0 } else { self.changes[at - 1].count }
     }
 
-    /// A list's count after `k` transactions.
-    pub fn count_at(&self, k: u32, list: u32) -> u32 {
+    // Whether a change belongs to a transaction after the first `k`.
+    fn is_later(&self, k: u32, at: usize) -> bool
+        requires { ⌜ at ≤ vec-len (now self .changes) ⌝ }
+        ensures { λ r. ⌜ r ≡ later (vec-items (now (self .entry) .changes)) k at ⌝ }
+    {
+        at > 0 && self.changes[at - 1].transaction > u64::from(k)
+    }
+
+    // The change of the same list before a change, by one more than its index too.
+    fn before(&self, at: usize) -> usize
+        requires some { ⌜ 0 < at ⌝ }
+        requires within { ⌜ at ≤ vec-len (now self .changes) ⌝ }
+        ensures { λ r. ⌜ r ≡ newest-in (list-at (vec-items (now (self .entry) .changes)) (at - 1)) (vec-items (now (self .entry) .changes)) (at - 1) ⌝ }
+    {
+        self.links[at - 1]
+    }
+
+    /// A list's newest count; 0 for a list that was given none.
+    pub fn latest(&self, list: u32) -> u32
+        ensures { λ r. ⌜ r ≡ noted (vec-items (now (self .entry) .changes)) list ⌝ }
+    {
+        self.count_of(self.newest(list))
+    }
+
+    /// A list's count after `k` transactions, by its changes from the newest one back.
+    pub fn count_at(&self, k: u32, list: u32) -> u32
+        ensures { λ r. ⌜ r ≡ noted-at (vec-items (now (self .entry) .changes)) k list ⌝ }
+    {
         let mut at = self.newest(list);
-        while at > 0 && at <= self.changes.len() {
-            let change = self.changes[at - 1];
-            if change.transaction <= k {
-                return change.count;
-            }
-            if change.before >= at {
-                return 0;
-            }
-            at = change.before;
+        while self.is_later(k, at) {
+            at = self.before(at);
         }
-        0
+        self.count_of(at)
     }
 
-    /// The highest list ID that was counted; 0 for none.
-    pub fn highest(&self) -> u32 {
-        match self.lists.last() {
-            Some(counted) => counted.list,
-            None => 0,
-        }
-    }
-
-    /// Notes a list's new count; says whether there was room.
-    pub fn note(&mut self, transaction: u32, list: u32, count: u32) -> bool {
+    /// Notes the count that the next transaction gives a list; says whether there was room.
+    pub fn note(&mut self, list: u32, count: u32) -> bool
+        ensures test { λ r. ⌜ r ≡ ltb (vec-len (now (self .entry) .changes)) (now (self .entry) .room) ⌝ }
+        ensures changes { λ r. ⌜ vec-items (now (self .exit) .changes) ≡ cond r (vec-items (now (self .entry) .changes) ++ change (now (self .entry) .finished + 1) list count ∷ []) (vec-items (now (self .entry) .changes)) ⌝ }
+        ensures len { λ r. ⌜ vec-len (now (self .exit) .changes) ≡ cond r (vec-len (now (self .entry) .changes) + 1) (vec-len (now (self .entry) .changes)) ⌝ }
+        ensures room { λ _. ⌜ now (self .exit) .room ≡ now (self .entry) .room ⌝ }
+        ensures finished { λ _. ⌜ now (self .exit) .finished ≡ now (self .entry) .finished ⌝ }
+        ensures same { λ r. ⌜ (r ≡ false → now (self .exit) ≡ now (self .entry)) ⌝ }
+    {
         if self.changes.len() >= self.room {
             return false;
         }
-        let before = self.newest(list);
-        let newest = self.changes.len();
-        if self.changes.push(Change { list, transaction, count, before }).is_err() {
-            return false;
-        }
-        let i = self.place_of(list);
-        if before > 0 && i < self.lists.len() {
-            self.lists[i] = Counted { list, newest };
-            true
-        } else {
-            self.lists.insert(i, Counted { list, newest }).is_ok()
-        }
+        self.add(list, count);
+        true
+    }
+
+    // One change more, and it is its list's newest.
+    fn add(&mut self, list: u32, count: u32)
+        requires { ⌜ vec-len (now self .changes) < now self .room ⌝ }
+        ensures changes { λ _. ⌜ vec-items (now (self .exit) .changes) ≡ vec-items (now (self .entry) .changes) ++ change (now (self .entry) .finished + 1) list count ∷ [] ⌝ }
+        ensures len { λ _. ⌜ vec-len (now (self .exit) .changes) ≡ vec-len (now (self .entry) .changes) + 1 ⌝ }
+        ensures room { λ _. ⌜ now (self .exit) .room ≡ now (self .entry) .room ⌝ }
+        ensures finished { λ _. ⌜ now (self .exit) .finished ≡ now (self .entry) .finished ⌝ }
+    {
+        let i = place_of(&self.lists, list);
+        let before = newest_at(&self.lists, i, list);
+        let newest = self.changes.len() + 1;
+        set_newest(&mut self.lists, i, Counted { list, newest });
+        self.links.push_reserved(before);
+        self.changes.push_reserved(Change { transaction: self.finished + 1, list, count });
+        self.highest = self.highest.max(list);
     }
 }
