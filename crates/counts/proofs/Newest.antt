@@ -2,7 +2,7 @@
 use mathlib.Core.Path.{_≡_, refl, sym, ap, _∙_}
 use mathlib.Core.Bool.{Bool, true, false, cond, _&&_}
 use mathlib.Core.List.{List, [], _∷_, _++_, map}
-use mathlib.Core.Logic.{inl, inr}
+use mathlib.Core.Logic.{_⊎_, inl, inr}
 use Prim.Native.Nat.{ℕ, zero, suc, _+_, _-_, _<_, _≤_, max}
 use native.Mathlib.Omega.{arith}
 use lib.Dec.{eqb, leb}
@@ -16,7 +16,7 @@ use Rattle.model.specs.Section.{latest}
 use Rattle.model.specs.Layouts.{greatest}
 use Rattle.counts.specs.declared.changes.Change.{Change}
 use Rattle.counts.specs.Noted.{entry-of, entries, noted, noted-at, noted-most}
-use Rattle.counts.specs.Chains.{no-change, list-at, newest-in, listed, count-to, later}
+use Rattle.counts.specs.Chains.{no-change, list-at, transaction-at, newest-in, listed, count-to, later}
 use Rattle.counts.specs.declared.changes.Counted.{Counted}
 
 -- what some of the changes say, those that a test keeps
@@ -162,6 +162,9 @@ module _ (cs : List Change) (n : ℕ) (long : n ≡ length cs) (k id at : ℕ) (
   later-kept : false ≡ later cs k at → 0 < at → leb (getD cs (at - 1) no-change .transaction) k ≡ true
   later-kept t h = grind (arith, tells)
 
+  pub back-less : true ≡ later cs k at → (r : ℕ) → r ≡ newest-in (list-at cs (at - 1)) cs (at - 1) → r < at
+  back-less t r e = let some = later-some t in omega (arith, newest-within (list-at cs (at - 1)) cs (at - 1))
+
   pub back : true ≡ later cs k at → (r : ℕ) → r ≡ newest-in (list-at cs (at - 1)) cs (at - 1)
     → (r ≤ n) × (0 < r → list-at cs (r - 1) ≡ id) × (noted-at (take at cs) k id ≡ noted-at (take r cs) k id)
   back t r e =
@@ -181,8 +184,9 @@ module _ (cs : List Change) (n : ℕ) (long : n ≡ length cs) (k id at : ℕ) (
 
 -- what a table holds with one change more
 module _ (cs ds : List Change) (c : Change) (n m : ℕ) (long : n ≡ length cs) (items : ds ≡ cs ++ c ∷ []) (more : m ≡ n + 1) where
-  pub newest-added : (id a b : ℕ) → a ≡ cond (eqb (c .list) id) (n + 1) b → b ≡ newest-in id cs n → a ≡ newest-in id ds m
-  newest-added id a b e f = e ∙ ap (λ z. cond (eqb (c .list) id) (n + 1) z) f ∙ sym (rw (items, more) (newest-push id cs c n (sym long)))
+  pub newest-added : (id a b p : ℕ) → p ≡ n + 1 → a ≡ cond (eqb (c .list) id) p b → b ≡ newest-in id cs n → a ≡ newest-in id ds m
+  newest-added id a b p next e f =
+      e ∙ ap (λ z. cond (eqb (c .list) id) z b) next ∙ ap (λ z. cond (eqb (c .list) id) (n + 1) z) f ∙ sym (rw (items, more) (newest-push id cs c n (sym long)))
 
   pub linked-added : (bs es : List ℕ) (b : ℕ) → n ≡ length bs → es ≡ bs ++ b ∷ [] → b ≡ newest-in (c .list) cs n
     → ((i : ℕ) → i < n → getD bs i 0 ≡ newest-in (list-at cs i) cs i)
@@ -198,6 +202,28 @@ module _ (cs ds : List Change) (c : Change) (n m : ℕ) (long : n ≡ length cs)
       let q = newest-earlier (c .list) cs c n (omega arith) in
       rw (is, items, z, p, q) (getD-push bs b 0 n (sym size) ∙ e)
   ]
+
+  added-at : (i : ℕ) → i < m → ((i < n) × (transaction-at ds i ≡ transaction-at cs i)) ⊎ ((i ≡ n) × (transaction-at ds i ≡ c .transaction))
+  added-at i h = elim (cases-lt i n) [
+    | inl l ↦ inl (l, rw items (ap (λ x. x .transaction) (getD-append-left cs (c ∷ []) no-change i (omega arith))))
+    | inr l ↦ let z : i ≡ n = omega arith in inr (z, rw (items, z) (ap (λ x. x .transaction) (getD-push cs c no-change n (sym long))))
+  ]
+
+  module _ (last : ℕ) (is : c .transaction ≡ last) (early : (i : ℕ) → i < n → transaction-at cs i ≤ last) where
+    pub early-added : (i : ℕ) → i < m → transaction-at ds i ≤ last
+    early-added i h = elim (added-at i h) [
+      | inl (l, e) ↦ omega (arith, early i l)
+      | inr (z, e) ↦ omega arith
+    ]
+
+    pub steady-added : ((i j : ℕ) → (i < j) × (j < n) → transaction-at cs i ≤ transaction-at cs j) → (i j : ℕ) → (i < j) × (j < m) → transaction-at ds i ≤ transaction-at ds j
+    steady-added f i j (h, l) = elim (added-at j l) [
+      | inl (p, e) ↦ elim (added-at i (omega arith)) [
+        | inl (q, d) ↦ omega (arith, f i j (h, p))
+        | inr (q, d) ↦ absurd (omega arith)
+      ]
+      | inr (p, e) ↦ omega (arith, early-added i (omega arith))
+    ]
 
   pub most-added : (a b : ℕ) → a ≡ max b (c .list) → b ≡ noted-most cs → a ≡ noted-most ds
   most-added a b e f = e ∙ ap (λ z. max z (c .list)) f ∙ sym (ap noted-most items ∙ most-push cs c)

@@ -15,9 +15,12 @@ no-change = change 0 0 0
 abbrev pub no-list : Counted
 no-list = record { list = 0; newest = 0 }
 
--- the list of the i-th change, and the ID of the i-th list
+-- the list of the i-th change and its transaction, and the ID of the i-th list
 abbrev pub list-at : List Change → ℕ → ℕ
 list-at cs i = getD cs i no-change .list
+
+abbrev pub transaction-at : List Change → ℕ → ℕ
+transaction-at cs i = getD cs i no-change .transaction
 
 abbrev pub id-at : List Counted → ℕ → ℕ
 id-at ls i = getD ls i no-list .list
@@ -32,7 +35,7 @@ abbrev pub count-to : List Change → ℕ → ℕ
 count-to cs at = cond (eqb at 0) 0 (getD cs (at - 1) no-change .count)
 
 abbrev pub later : List Change → ℕ → ℕ → Bool
-later cs k at = ltb 0 at && ltb k (getD cs (at - 1) no-change .transaction)
+later cs k at = ltb 0 at && ltb k (transaction-at cs (at - 1))
 
 -- what the lists hold of one of them; 0 for none
 unfoldable pub listed : ℕ → List Counted → ℕ

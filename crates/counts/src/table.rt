@@ -8,7 +8,7 @@ ghost use lib.ListN.{getD, take};
 ghost use Rattle.std.specs.Of.Vec.{vec-items, vec-len, vec-cap};
 ghost use Rattle.std.specs.Vec.{made};
 ghost use Rattle.counts.specs.Noted.{change, noted, noted-at, noted-most};
-ghost use Rattle.counts.specs.Chains.{list-at, id-at, newest-in, listed, count-to, later};
+ghost use Rattle.counts.specs.Chains.{list-at, transaction-at, id-at, newest-in, listed, count-to, later};
 use crate::chains::newest_at;
 use crate::chains::place_of;
 use crate::chains::set_newest;
@@ -29,13 +29,15 @@ pub struct Counts {
     room: usize,
     finished: u64,
     highest: u32,
-    ghost changes_room: { (vec-len changes ≤ room) × (room ≤ vec-cap changes) },
-    ghost links_room: { (vec-len links ≡ vec-len changes) × (room ≤ vec-cap links) },
-    ghost lists_room: { (vec-len lists ≤ vec-len changes) × (room ≤ vec-cap lists) },
+    ghost held: { (vec-len changes ≤ room) × (room ≤ vec-cap changes) },
+    ghost paired: { (vec-len links ≡ vec-len changes) × (room ≤ vec-cap links) },
+    ghost few: { (vec-len lists ≤ vec-len changes) × (room ≤ vec-cap lists) },
     ghost countable: { finished ≤ 2 ^ 63 },
     ghost rises: { (i j : ℕ) → (i < j) × (j < vec-len lists) → id-at (vec-items lists) i < id-at (vec-items lists) j },
     ghost newest: { (id : ℕ) → listed id (vec-items lists) ≡ newest-in id (vec-items changes) (vec-len changes) },
     ghost linked: { (i : ℕ) → i < vec-len changes → getD (vec-items links) i 0 ≡ newest-in (list-at (vec-items changes) i) (vec-items changes) i },
+    ghost early: { (i : ℕ) → i < vec-len changes → transaction-at (vec-items changes) i ≤ finished + 1 },
+    ghost steady: { (i j : ℕ) → (i < j) × (j < vec-len changes) → transaction-at (vec-items changes) i ≤ transaction-at (vec-items changes) j },
     ghost most: { highest ≡ noted-most (vec-items changes) },
 }
 

@@ -1,8 +1,8 @@
 -- Each of the parts takes the change up.
-use mathlib.Core.Path.{_∙_, sym}
+use mathlib.Core.Path.{_∙_, sym, refl}
+use Prim.Native.Nat.{ℕ}
 use native.Mathlib.Omega.{arith}
-use Rattle.counts.specs.Noted.{change}
-use Rattle.counts.proofs.Newest.{newest-added, linked-added, most-added}
+use Rattle.counts.proofs.Newest.{newest-added, linked-added, early-added, steady-added, most-added}
 use Rattle.counts.proofs.table.Counts.add.Needs as need
 
 pub ghost-self : need.ghost-self
@@ -12,22 +12,11 @@ ghost-self c =
     let b = c .push-reserved .ensures in
     let l = c .set-newest .ensures in
     let e = c .newest-at-before .ensures ∙ d .newest (c .args .list) in
-    let n = d .changes .ok .0 in (
-      (omega arith, omega arith),
-      (
-        (omega arith, omega arith),
-        (
-          (omega arith, omega arith),
-          (
-            omega arith,
-            (
-              l .rises,
-              (
-                λ id. newest-added _ _ _ _ _ n (a .items) (a .len) id _ _ (l .holds id) (d .newest id),
-                (linked-added _ _ _ _ _ n (a .items) (a .len) _ _ _ (sym (d .links-room .0) ∙ d .links .ok .0) (b .items) e (d .linked), (most-added _ _ _ _ _ n (a .items) (a .len) _ _ (c .max-self .ensures) (d .most), tt))
-              )
-            )
-          )
-        )
-      )
-    )
+    let n = d .changes .ok .0 in
+    let size = sym (d .paired .0) ∙ d .links .ok .0 in
+    let newest = λ (id : ℕ). newest-added _ _ _ _ _ n (a .items) (a .len) id _ _ _ (omega arith) (l .holds id) (d .newest id) in
+    let linked = linked-added _ _ _ _ _ n (a .items) (a .len) _ _ _ size (b .items) e (d .linked) in
+    let early = early-added _ _ _ _ _ n (a .items) (a .len) _ refl (d .early) in
+    let steady = steady-added _ _ _ _ _ n (a .items) (a .len) _ refl (d .early) (d .steady) in
+    let most = most-added _ _ _ _ _ n (a .items) (a .len) _ _ (c .max-self .ensures) (d .most) in
+    ((omega arith, omega arith), ((omega arith, omega arith), ((omega arith, omega arith), (omega arith, (l .rises, (newest, (linked, (early, (steady, (most, tt))))))))))

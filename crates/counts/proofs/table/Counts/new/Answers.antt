@@ -16,7 +16,7 @@ ghost-result c =
           (omega arith, omega arith),
           (
             omega arith,
-            (λ i j (h, m). absurd (omega arith), (λ id. newest-none id _ _ _ (l .0) (a .1 .0), (λ i h. absurd (omega arith), (most-none _ (a .0), tt))))
+            (λ i j (h, m). absurd (omega arith), (λ id. newest-none id _ _ _ (l .0) (a .1 .0), (λ i h. absurd (omega arith), (λ i h. absurd (omega arith), (λ i j (h, m). absurd (omega arith), (most-none _ (a .0), tt))))))
           )
         )
       )
