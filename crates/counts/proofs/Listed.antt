@@ -1,7 +1,7 @@
 -- The lists in the order of their IDs: which one a search finds, and what one more leaves.
 use mathlib.Core.Path.{_≡_, refl, sym, ap, _∙_}
 use mathlib.Core.Bool.{Bool, true, false, cond}
-use mathlib.Core.List.{List, [], _∷_, _++_}
+use mathlib.Core.List.{List, [], _∷_}
 use mathlib.Core.Logic.{inl, inr}
 use Prim.Native.Nat.{ℕ, zero, suc, _+_, _-_, _<_, _≤_}
 use native.Mathlib.Omega.{arith}
@@ -34,7 +34,7 @@ listed-none id (x ∷ ls) f =
 
 -- another change of a list at its place
 pub listed-set : (id : ℕ) (ls : List Counted) (i : ℕ) (x : Counted) → i < length ls → id-at ls i ≡ x .list → ((k : ℕ) → k < i → id-at ls k < x .list)
-  → listed id (set ls i x) ≡ cond (eqb (x .list) id) (x .newest) (listed id ls)
+    → listed id (set ls i x) ≡ cond (eqb (x .list) id) (x .newest) (listed id ls)
 unfolding listed
 listed-set id [] i x h e b = absurd (omega arith)
 listed-set id (y ∷ ls) zero x h e b = grind (arith, tells)
@@ -45,7 +45,7 @@ listed-set id (y ∷ ls) (suc i) x h e b =
 
 -- a list more at its place
 pub listed-inserted : (id : ℕ) (ls : List Counted) (i : ℕ) (x : Counted) → i ≤ length ls → ((k : ℕ) → k < i → id-at ls k < x .list)
-  → listed id (inserted ls i x) ≡ cond (eqb (x .list) id) (x .newest) (listed id ls)
+    → listed id (inserted ls i x) ≡ cond (eqb (x .list) id) (x .newest) (listed id ls)
 unfolding listed
 listed-inserted id ls zero x h b = refl
 listed-inserted id [] (suc i) x h b = absurd (omega arith)
@@ -91,7 +91,6 @@ module _ (ls : List Counted) (n : ℕ) (rise : Rise ls n) where
         (at′ : getD ts i no-list ≡ x)
         (low : (k : ℕ) → k < i → getD ts k no-list ≡ getD ls k no-list)
         (high : (k : ℕ) → i < k → getD ts k no-list ≡ getD ls (k - 1) no-list) where
-
       behind : (k : ℕ) → i ≤ k → k < n → id < id-at ls k
       behind k h l = let a = place .above k h l in let m = missing none k l in elim (cases-eq (id-at ls k) id) [
         | inl e ↦ absurd (m e)
@@ -137,8 +136,8 @@ module _ (ls : List Counted) (n : ℕ) (rise : Rise ls n) where
       inserted-holds z = let w = place .within in listed-inserted z ls i x (omega arith) (λ k l. omega (arith, place .below k l))
 
       pub inserted-rises : false ≡ stands id ls n i → (ts : List Counted)
-        → getD ts i no-list ≡ x
-        → ((k : ℕ) → k < i → getD ts k no-list ≡ getD ls k no-list)
-        → ((k : ℕ) → i < k → getD ts k no-list ≡ getD ls (k - 1) no-list)
-        → Rise ts (n + 1)
+          → getD ts i no-list ≡ x
+          → ((k : ℕ) → k < i → getD ts k no-list ≡ getD ls k no-list)
+          → ((k : ℕ) → i < k → getD ts k no-list ≡ getD ls (k - 1) no-list)
+          → Rise ts (n + 1)
       inserted-rises t ts at′ low high = rise-more ts x is (stands-not t) at′ low high

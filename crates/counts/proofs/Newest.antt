@@ -11,7 +11,6 @@ use Rattle.std.specs.shelf.Lists.{kept-by}
 use Rattle.std.proofs.shelf.Lists.{take-more, take-all, getD-append-left, getD-push, map-push}
 use Rattle.std.proofs.shelf.Tests.{cases-lt, cases-bool, cases-eq, eq-eqb, ne-eqb, cond-true, cond-false, and-from, and-left, and-right}
 use Rattle.std.proofs.shelf.Ways.{tells}
-use Rattle.model.specs.declared.types.Entry.{Entry}
 use Rattle.model.specs.Section.{latest}
 use Rattle.model.specs.Layouts.{greatest}
 use Rattle.counts.specs.declared.changes.Change.{Change}
@@ -33,12 +32,12 @@ pub noted-by : (cs : List Change) (id : ℕ) → by (λ c. true) cs id ≡ noted
 noted-by cs id = by-all id cs 0
 
 push : (keep : Change → Bool) (id n : ℕ) (cs : List Change) (c : Change)
-  → latest id n (entries (kept-by keep (cs ++ c ∷ []))) ≡ cond (keep c && eqb (c .list) id) (c .count) (latest id n (entries (kept-by keep cs)))
+    → latest id n (entries (kept-by keep (cs ++ c ∷ []))) ≡ cond (keep c && eqb (c .list) id) (c .count) (latest id n (entries (kept-by keep cs)))
 unfolding latest
 push keep id n [] c = grind (arith, tells)
 push keep id n (x ∷ cs) c =
     let ih : (m : ℕ) → latest id m (entries (kept-by keep (cs ++ c ∷ []))) ≡ cond (keep c && eqb (c .list) id) (c .count) (latest id m (entries (kept-by keep cs)))
-        = λ m. push keep id m cs c in
+    = λ m. push keep id m cs c in
     elim (cases-bool (keep x)) [
       | inl e ↦ let i = ih (cond (eqb (x .list) id) (x .count) n) in rw (e) i
       | inr e ↦ rw (e) (ih n)
@@ -71,7 +70,7 @@ newest-by keep id cs (suc n) h =
     let e : n + 1 ≡ suc n = omega arith in
     let split : take (suc n) cs ≡ take n cs ++ getD cs n no-change ∷ [] = ap (λ k. take k cs) (sym e) ∙ take-more cs n no-change (omega arith) in
     let p : by keep (take (suc n) cs) id ≡ cond (keep (getD cs n no-change) && eqb (list-at cs n) id) (getD cs n no-change .count) (by keep (take n cs) id)
-        = ap (λ xs. by keep xs id) split ∙ by-push keep (take n cs) (getD cs n no-change) id in
+    = ap (λ xs. by keep xs id) split ∙ by-push keep (take n cs) (getD cs n no-change) id in
     elim (cases-eq (list-at cs n) id) [
       | inl a ↦ let q = eq-eqb _ _ a in rw q
       | inr a ↦ let q = ne-eqb _ _ a in rw q (p ∙ cond-false _ _ _ (and-right _ _ q) ∙ ih)
@@ -115,7 +114,7 @@ newest-none id ls cs n e z = rw (e, z)
 
 -- the changes up to one of a list itself, where a test keeps that one or there is none
 pub count-by : (keep : Change → Bool) (cs : List Change) (id at : ℕ) → at ≤ length cs → (0 < at → list-at cs (at - 1) ≡ id) → (0 < at → keep (getD cs (at - 1) no-change) ≡ true)
-  → count-to cs at ≡ by keep (take at cs) id
+    → count-to cs at ≡ by keep (take at cs) id
 unfolding latest
 count-by keep cs id zero h i t = refl
 count-by keep cs id (suc n) h i t =
@@ -166,7 +165,7 @@ module _ (cs : List Change) (n : ℕ) (long : n ≡ length cs) (k id at : ℕ) (
   back-less t r e = let some = later-some t in omega (arith, newest-within (list-at cs (at - 1)) cs (at - 1))
 
   pub back : true ≡ later cs k at → (r : ℕ) → r ≡ newest-in (list-at cs (at - 1)) cs (at - 1)
-    → (r ≤ n) × (0 < r → list-at cs (r - 1) ≡ id) × (noted-at (take at cs) k id ≡ noted-at (take r cs) k id)
+      → (r ≤ n) × (0 < r → list-at cs (r - 1) ≡ id) × (noted-at (take at cs) k id ≡ noted-at (take r cs) k id)
   back t r e =
       let some = later-some t in
       let f : r ≡ newest-in id cs (at - 1) = e ∙ ap (λ z. newest-in z cs (at - 1)) (is some) in
@@ -176,7 +175,7 @@ module _ (cs : List Change) (n : ℕ) (long : n ≡ length cs) (k id at : ℕ) (
         omega arith,
         λ h. let p : 0 < newest-in id cs (at - 1) = omega arith in ap (λ j. list-at cs (j - 1)) f ∙ newest-is id cs (at - 1) p,
         ap (λ j. noted-at (take j cs) k id) (sym q) ∙ passed-by keep cs id (at - 1) (omega arith) (later-not t)
-        ∙ newest-by keep id cs (at - 1) (omega arith) ∙ ap (λ j. by keep (take j cs) id) (sym f),
+            ∙ newest-by keep id cs (at - 1) (omega arith) ∙ ap (λ j. by keep (take j cs) id) (sym f),
       )
 
   pub arrived : false ≡ later cs k at → count-to cs at ≡ noted-at (take at cs) k id
@@ -189,18 +188,18 @@ module _ (cs ds : List Change) (c : Change) (n m : ℕ) (long : n ≡ length cs)
       e ∙ ap (λ z. cond (eqb (c .list) id) z b) next ∙ ap (λ z. cond (eqb (c .list) id) (n + 1) z) f ∙ sym (rw (items, more) (newest-push id cs c n (sym long)))
 
   pub linked-added : (bs es : List ℕ) (b : ℕ) → n ≡ length bs → es ≡ bs ++ b ∷ [] → b ≡ newest-in (c .list) cs n
-    → ((i : ℕ) → i < n → getD bs i 0 ≡ newest-in (list-at cs i) cs i)
-    → (i : ℕ) → i < m → getD es i 0 ≡ newest-in (list-at ds i) ds i
+      → ((i : ℕ) → i < n → getD bs i 0 ≡ newest-in (list-at cs i) cs i)
+      → (i : ℕ) → i < m → getD es i 0 ≡ newest-in (list-at ds i) ds i
   linked-added bs es b size is e f i h = elim (cases-lt i n) [
     | inl l ↦
-      let p : list-at (cs ++ c ∷ []) i ≡ list-at cs i = ap (λ x. x .list) (getD-append-left cs (c ∷ []) no-change i (omega arith)) in
-      let q = newest-earlier (list-at cs i) cs c i (omega arith) in
-      rw (is, items, p, q) (getD-append-left bs (b ∷ []) 0 i (omega arith) ∙ f i l)
+        let p : list-at (cs ++ c ∷ []) i ≡ list-at cs i = ap (λ x. x .list) (getD-append-left cs (c ∷ []) no-change i (omega arith)) in
+        let q = newest-earlier (list-at cs i) cs c i (omega arith) in
+        rw (is, items, p, q) (getD-append-left bs (b ∷ []) 0 i (omega arith) ∙ f i l)
     | inr l ↦
-      let z : i ≡ n = omega arith in
-      let p : list-at (cs ++ c ∷ []) n ≡ c .list = ap (λ x. x .list) (getD-push cs c no-change n (sym long)) in
-      let q = newest-earlier (c .list) cs c n (omega arith) in
-      rw (is, items, z, p, q) (getD-push bs b 0 n (sym size) ∙ e)
+        let z : i ≡ n = omega arith in
+        let p : list-at (cs ++ c ∷ []) n ≡ c .list = ap (λ x. x .list) (getD-push cs c no-change n (sym long)) in
+        let q = newest-earlier (c .list) cs c n (omega arith) in
+        rw (is, items, z, p, q) (getD-push bs b 0 n (sym size) ∙ e)
   ]
 
   added-at : (i : ℕ) → i < m → ((i < n) × (transaction-at ds i ≡ transaction-at cs i)) ⊎ ((i ≡ n) × (transaction-at ds i ≡ c .transaction))

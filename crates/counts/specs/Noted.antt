@@ -1,6 +1,6 @@
 -- What changes in the order of the log say: the counts of lists, after all transactions or after some.
-use Prim.Native.Nat.{ℕ}
-use mathlib.Core.List.{List, map}
+use Prim.Native.Nat.{ℕ, _+_}
+use mathlib.Core.List.{List, [], _∷_, _++_, map}
 use lib.Dec.{leb}
 use Rattle.std.specs.shelf.Lists.{kept-by}
 use Rattle.model.specs.declared.types.Entry.{Entry}
@@ -34,3 +34,11 @@ noted-at cs k id = latest id 0 (entries-upto k cs)
 -- the highest ID of a list that was given a count
 abbrev pub noted-most : List Change → ℕ
 noted-most cs = greatest (map (λ e. e .source) (entries cs))
+
+-- the entries of a transaction as changes, and those of transactions one after the other, numbered from t on
+abbrev pub changes-of : ℕ → List Entry → List Change
+changes-of t es = map (λ e. change t (e .source) (e .number)) es
+
+unfoldable pub numbered : ℕ → List (List Entry) → List Change
+numbered t [] = []
+numbered t (es ∷ ts) = changes-of t es ++ numbered (t + 1) ts

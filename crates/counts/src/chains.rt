@@ -1,4 +1,4 @@
-//! Lists in the order of their IDs.
+//! Lists in the order of their IDs, each with its newest change.
 ghost use mathlib.Core.Path.{_≡_};
 ghost use mathlib.Core.Bool.{cond};
 ghost use Prim.Native.Nat.{ℕ, _+_, _≤_, _<_};
@@ -38,7 +38,11 @@ pub(crate) fn newest_at(lists: &Vec<Counted>, i: usize, list: u32) -> usize
     requires place { ⌜ Place list (vec-items (now lists)) (vec-len (now lists)) i ⌝ }
     ensures { λ r. ⌜ r ≡ listed list (vec-items (now (lists .entry))) ⌝ }
 {
-    if stands(lists, i, list) { lists[i].newest } else { 0 }
+    if stands(lists, i, list) {
+        lists[i].newest
+    } else {
+        0
+    }
 }
 
 // Holds a list's newest change, at the list's place.

@@ -1,7 +1,7 @@
 //! One count that a transaction gave a list.
 
 /// A list's new count, by its transaction's number from 1 on.
-#[derive(Clone, Copy, Debug)]
+#[derive(Clone, Copy)]
 pub struct Change {
     pub transaction: u64,
     pub list: u32,

@@ -2,13 +2,13 @@
 ghost use mathlib.Core.Path.{_≡_};
 ghost use mathlib.Core.Bool.{cond, false};
 ghost use mathlib.Core.List.{_++_, [], _∷_};
-ghost use Prim.Native.Nat.{ℕ, _+_, _-_, _^_, _≤_, _<_, min};
+ghost use Prim.Native.Nat.{ℕ, _+_, _^_, _≤_, _<_, min};
 ghost use lib.Dec.{ltb};
-ghost use lib.ListN.{getD, take};
+ghost use lib.ListN.{getD};
 ghost use Rattle.std.specs.Of.Vec.{vec-items, vec-len, vec-cap};
 ghost use Rattle.std.specs.Vec.{made};
-ghost use Rattle.counts.specs.Noted.{change, noted, noted-at, noted-most};
-ghost use Rattle.counts.specs.Chains.{list-at, transaction-at, id-at, newest-in, listed, count-to, later};
+ghost use Rattle.counts.specs.Noted.{change, noted-most};
+ghost use Rattle.counts.specs.Chains.{list-at, transaction-at, id-at, newest-in, listed};
 use crate::chains::newest_at;
 use crate::chains::place_of;
 use crate::chains::set_newest;
@@ -17,10 +17,13 @@ use crate::changes::Counted;
 use std::alloc::AllocError;
 use std::alloc::Global;
 
-// So many transactions are counted; no log can have more, since each takes bytes of a file.
+mod reads;
+
+// Counting stops here. No log has so many transactions, since each takes bytes of a file.
 const LAST: u64 = 1 << 63;
 
-// `links` has for each change one more than the index of its list's change before it, and 0 for none.
+/// The changes in the order of the log. `links` has for each of them one more than the index of its list's change before it, and 0 for none;
+/// `lists` has each list once, with one more than the index of its newest change.
 #[derive(Drop)]
 pub struct Counts {
     changes: Vec<Change>,
@@ -42,9 +45,12 @@ pub struct Counts {
 }
 
 impl Counts {
-    /// No counts, with room for `room` changes.
+    /// No changes and no transactions, with room for `room` changes.
     pub fn new(heap: Global, room: usize) -> Result<Counts, AllocError>
-        ensures { λ r. ⌜ made r (λ t. (vec-items (t .changes) ≡ []) × (vec-len (t .changes) ≡ 0) × (t .room ≡ room) × (t .finished ≡ 0)) ⌝ }
+        ensures changes { λ r. ⌜ made r (λ t. vec-items (t .changes) ≡ []) ⌝ }
+        ensures len { λ r. ⌜ made r (λ t. vec-len (t .changes) ≡ 0) ⌝ }
+        ensures room { λ r. ⌜ made r (λ t. t .room ≡ room) ⌝ }
+        ensures finished { λ r. ⌜ made r (λ t. t .finished ≡ 0) ⌝ }
     {
         Ok(Counts {
             changes: Vec::with_capacity(heap, room)?,
@@ -56,7 +62,7 @@ impl Counts {
         })
     }
 
-    /// Lets all counts go, and all transactions.
+    /// Lets all changes and transactions go.
     pub fn clear(&mut self)
         ensures changes { λ _. ⌜ vec-items (now (self .exit) .changes) ≡ [] ⌝ }
         ensures len { λ _. ⌜ vec-len (now (self .exit) .changes) ≡ 0 ⌝ }
@@ -70,21 +76,7 @@ impl Counts {
         self.highest = 0;
     }
 
-    /// How many transactions are finished.
-    pub fn finished(&self) -> u64
-        ensures { λ r. ⌜ r ≡ now (self .entry) .finished ⌝ }
-    {
-        self.finished
-    }
-
-    /// The highest ID of a list that was given a count; 0 for none.
-    pub fn highest(&self) -> u32
-        ensures { λ r. ⌜ r ≡ noted-most (vec-items (now (self .entry) .changes)) ⌝ }
-    {
-        self.highest
-    }
-
-    /// One transaction more is finished.
+    /// One transaction more is finished: what was noted since the last one belongs to it.
     pub fn finish(&mut self)
         ensures finished { λ _. ⌜ now (self .exit) .finished ≡ min (now (self .entry) .finished + 1) (2 ^ 63) ⌝ }
         ensures changes { λ _. ⌜ now (self .exit) .changes ≡ now (self .entry) .changes ⌝ }
@@ -93,60 +85,6 @@ impl Counts {
         if self.finished < LAST {
             self.finished += 1;
         }
-    }
-
-    // One more than the index of a list's newest change; 0 for none. No change behind it says anything of that list.
-    fn newest(&self, list: u32) -> usize
-        ensures within { λ r. ⌜ r ≤ vec-len (now (self .entry) .changes) ⌝ }
-        ensures is { λ r. ⌜ (0 < r → list-at (vec-items (now (self .entry) .changes)) (r - 1) ≡ list) ⌝ }
-        ensures noted { λ r. ⌜ noted (vec-items (now (self .entry) .changes)) list ≡ count-to (vec-items (now (self .entry) .changes)) r ⌝ }
-        ensures noted_at { λ r. ⌜ ((k : ℕ) → noted-at (vec-items (now (self .entry) .changes)) k list ≡ noted-at (take r (vec-items (now (self .entry) .changes))) k list) ⌝ }
-    {
-        let i = place_of(&self.lists, list);
-        newest_at(&self.lists, i, list)
-    }
-
-    // The count that a change gives, by one more than its index; 0 for none.
-    fn count_of(&self, at: usize) -> u32
-        requires { ⌜ at ≤ vec-len (now self .changes) ⌝ }
-        ensures { λ r. ⌜ r ≡ count-to (vec-items (now (self .entry) .changes)) at ⌝ }
-    {
-        if at == 0 { 0 } else { self.changes[at - 1].count }
-    }
-
-    // Whether a change belongs to a transaction after the first `k`.
-    fn is_later(&self, k: u32, at: usize) -> bool
-        requires { ⌜ at ≤ vec-len (now self .changes) ⌝ }
-        ensures { λ r. ⌜ r ≡ later (vec-items (now (self .entry) .changes)) k at ⌝ }
-    {
-        at > 0 && self.changes[at - 1].transaction > u64::from(k)
-    }
-
-    // The change of the same list before a change, by one more than its index too.
-    fn before(&self, at: usize) -> usize
-        requires some { ⌜ 0 < at ⌝ }
-        requires within { ⌜ at ≤ vec-len (now self .changes) ⌝ }
-        ensures { λ r. ⌜ r ≡ newest-in (list-at (vec-items (now (self .entry) .changes)) (at - 1)) (vec-items (now (self .entry) .changes)) (at - 1) ⌝ }
-    {
-        self.links[at - 1]
-    }
-
-    /// A list's newest count; 0 for a list that was given none.
-    pub fn latest(&self, list: u32) -> u32
-        ensures { λ r. ⌜ r ≡ noted (vec-items (now (self .entry) .changes)) list ⌝ }
-    {
-        self.count_of(self.newest(list))
-    }
-
-    /// A list's count after `k` transactions, by its changes from the newest one back.
-    pub fn count_at(&self, k: u32, list: u32) -> u32
-        ensures { λ r. ⌜ r ≡ noted-at (vec-items (now (self .entry) .changes)) k list ⌝ }
-    {
-        let mut at = self.newest(list);
-        while self.is_later(k, at) {
-            at = self.before(at);
-        }
-        self.count_of(at)
     }
 
     /// Notes the count that the next transaction gives a list; says whether there was room.
@@ -178,7 +116,11 @@ impl Counts {
         let newest = self.changes.len() + 1;
         set_newest(&mut self.lists, i, Counted { list, newest });
         self.links.push_reserved(before);
-        self.changes.push_reserved(Change { transaction: self.finished + 1, list, count });
+        self.changes.push_reserved(Change {
+            transaction: self.finished + 1,
+            list,
+            count,
+        });
         self.highest = self.highest.max(list);
     }
 }

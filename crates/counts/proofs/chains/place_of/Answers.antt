@@ -1,5 +1,5 @@
 -- The IDs rise, so what holds at `middle` holds of all before it, or of all from it on.
-use mathlib.Core.Path.{_≡_, ap}
+use mathlib.Core.Path.{ap}
 use native.Mathlib.Omega.{arith}
 use Rattle.std.proofs.shelf.Lists.{getD-read-under}
 use Rattle.counts.specs.Chains.{no-list}

@@ -1,12 +1,10 @@
 -- The list stands at its place already, or is put there, where there is room.
-use mathlib.Core.Path.{_≡_, refl, ap, _∙_, sym, subst}
+use mathlib.Core.Path.{_≡_, refl, ap, _∙_}
 use mathlib.Core.Bool.{true}
 use native.Mathlib.Omega.{arith}
-use Prim.Native.Nat.{ℕ}
 use Rattle.std.specs.Results.{isOk}
-use Rattle.std.specs.Of.Vec.{vec-items}
 use Rattle.std.proofs.shelf.Tests.{cond-true}
-use Rattle.counts.specs.Chains.{no-list, listed, Rise}
+use Rattle.counts.specs.Chains.{no-list, listed}
 use Rattle.counts.proofs.Listed.{set-holds, set-rises, inserted-holds, inserted-rises}
 use Rattle.counts.proofs.chains.set_newest.Needs as need
 

@@ -1,5 +1,5 @@
 -- The starts rise, so what holds at `middle` holds of all before it, or of all from it on.
-use mathlib.Core.Path.{_≡_, ap}
+use mathlib.Core.Path.{ap}
 use native.Mathlib.Omega.{arith}
 use Rattle.std.proofs.shelf.Lists.{getD-read-under}
 use Rattle.model.specs.References.{span}

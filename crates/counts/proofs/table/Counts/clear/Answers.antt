@@ -15,8 +15,8 @@ ghost-self c =
           (omega arith, omega arith),
           (
             omega arith,
-            (λ i j (h, m). absurd (omega arith), (λ id. newest-none id _ _ _ (l .items) (a .len), (λ i h. absurd (omega arith), (λ i h. absurd (omega arith), (λ i j (h, m). absurd (omega arith), (most-none _ (a .items), tt))))))
-          )
-        )
-      )
+            (λ i j (h, m). absurd (omega arith), (λ id. newest-none id _ _ _ (l .items) (a .len), (λ i h. absurd (omega arith), (λ i h. absurd (omega arith), (λ i j (h, m). absurd (omega arith), (most-none _ (a .items), tt)))))),
+          ),
+        ),
+      ),
     )

@@ -1,5 +1,4 @@
 -- With no changes each list's newest is none.
-use mathlib.Core.Path.{refl}
 use native.Mathlib.Omega.{arith}
 use Rattle.counts.proofs.Newest.{newest-none, most-none}
 use Rattle.counts.proofs.table.Counts.new.Needs as need
@@ -16,8 +15,8 @@ ghost-result c =
           (omega arith, omega arith),
           (
             omega arith,
-            (λ i j (h, m). absurd (omega arith), (λ id. newest-none id _ _ _ (l .0) (a .1 .0), (λ i h. absurd (omega arith), (λ i h. absurd (omega arith), (λ i j (h, m). absurd (omega arith), (most-none _ (a .0), tt))))))
-          )
-        )
-      )
+            (λ i j (h, m). absurd (omega arith), (λ id. newest-none id _ _ _ (l .0) (a .1 .0), (λ i h. absurd (omega arith), (λ i h. absurd (omega arith), (λ i j (h, m). absurd (omega arith), (most-none _ (a .0), tt)))))),
+          ),
+        ),
+      ),
     )
