@@ -1,12 +1,13 @@
 //! Ranges of a file that share no byte with one another, ordered by their starts: whether another range shares a byte with one of them.
 ghost use mathlib.Core.Path.{_≡_};
 ghost use mathlib.Core.Bool.{true, false, not, _&&_};
+ghost use mathlib.Core.List.{[]};
 ghost use Prim.Native.Nat.{ℕ, _+_, _≤_, _<_};
 ghost use lib.Dec.{ltb};
 ghost use Rattle.std.specs.Of.Vec.{vec-items, vec-len, vec-cap};
 ghost use Rattle.std.specs.Vec.{made};
 ghost use Rattle.model.specs.References.{meets};
-ghost use Rattle.ranges.specs.Ordered.{start-at, end-at, Adds};
+ghost use Rattle.ranges.specs.Ordered.{start-at, end-at, reaches, begins-within, near, Adds};
 use model::types::Span;
 use std::alloc::AllocError;
 use std::alloc::Global;
@@ -24,7 +25,8 @@ pub struct Ranges {
 impl Ranges {
     /// No ranges, with room for all that there may be.
     pub fn new(heap: Global) -> Result<Ranges, AllocError>
-        ensures { λ r. ⌜ made r (λ s. vec-len (s .spans) ≡ 0) ⌝ }
+        ensures len { λ r. ⌜ made r (λ s. vec-len (s .spans) ≡ 0) ⌝ }
+        ensures items { λ r. ⌜ made r (λ s. vec-items (s .spans) ≡ []) ⌝ }
     {
         Ok(Ranges {
             spans: Vec::with_capacity(heap, MOST)?,
@@ -33,7 +35,8 @@ impl Ranges {
 
     /// Lets all ranges go.
     pub fn clear(&mut self)
-        ensures { λ _. ⌜ vec-len (now (self .exit) .spans) ≡ 0 ⌝ }
+        ensures len { λ _. ⌜ vec-len (now (self .exit) .spans) ≡ 0 ⌝ }
+        ensures items { λ _. ⌜ vec-items (now (self .exit) .spans) ≡ [] ⌝ }
     {
         self.spans.clear();
     }
@@ -66,24 +69,54 @@ impl Ranges {
     pub fn meets(&self, span: Span) -> bool
     {
         if span.size == 0 {
-            return false;
+            self.meets_nothing(span)
+        } else {
+            self.meets_some(span)
         }
-        let i = self.place_of(span.start);
-        self.reaches(i, span.start) || self.begins_within(i, span)
     }
 
-    // Whether the range before the `i`-th goes on past `start`.
-    fn reaches(&self, i: usize, start: u64) -> bool
+    // An empty range shares no byte.
+    fn meets_nothing(&self, span: Span) -> bool
+        requires { ⌜ span .size ≡ 0 ⌝ }
+        ensures { λ r. ⌜ r ≡ meets span (vec-items (now (self .entry) .spans)) ⌝ }
     {
-        if i == 0 || i > self.spans.len() {
+        false
+    }
+
+    // Another can share one with the range before its place or with the one at it, and with no other.
+    fn meets_some(&self, span: Span) -> bool
+        requires { ⌜ 0 < span .size ⌝ }
+        ensures { λ r. ⌜ r ≡ meets span (vec-items (now (self .entry) .spans)) ⌝ }
+    {
+        let i = self.place_of(span.start);
+        self.is_near(span, i)
+    }
+
+    // Whether the range before the `i`-th, or the `i`-th itself, shares a byte with one whose place is there.
+    fn is_near(&self, span: Span, i: usize) -> bool
+        requires some { ⌜ 0 < span .size ⌝ }
+        requires within { ⌜ i ≤ vec-len (now self .spans) ⌝ }
+        ensures { λ r. ⌜ r ≡ near span (vec-items (now (self .entry) .spans)) (vec-len (now (self .entry) .spans)) i ⌝ }
+    {
+        self.reaches(span.start, i) || self.begins_within(span, i)
+    }
+
+    // Whether the range before the `i`-th goes on past `start`. Its end may not fit a number, the difference of the starts does.
+    fn reaches(&self, start: u64, i: usize) -> bool
+        requires { ⌜ i ≤ vec-len (now self .spans) ⌝ }
+        ensures { λ r. ⌜ r ≡ reaches start (vec-items (now (self .entry) .spans)) i ⌝ }
+    {
+        if i == 0 {
             return false;
         }
         let before = self.spans[i - 1];
         start.saturating_sub(before.start) < before.size
     }
 
-    // Whether the `i`-th range begins before the end of a range that does not start behind it.
-    fn begins_within(&self, i: usize, span: Span) -> bool
+    // Whether the `i`-th range begins before the end of another.
+    fn begins_within(&self, span: Span, i: usize) -> bool
+        requires { ⌜ 0 < span .size ⌝ }
+        ensures { λ r. ⌜ r ≡ begins-within span (vec-items (now (self .entry) .spans)) (vec-len (now (self .entry) .spans)) i ⌝ }
     {
         i < self.spans.len() && self.spans[i].start.saturating_sub(span.start) < span.size
     }
@@ -94,7 +127,19 @@ impl Ranges {
         if span.size == 0 || self.meets(span) || self.spans.len() >= MOST {
             return false;
         }
+        self.put(span);
+        true
+    }
+
+    // Puts a range at its place.
+    fn put(&mut self, span: Span)
+        requires some { ⌜ 0 < span .size ⌝ }
+        requires none { ⌜ meets span (vec-items (now self .spans)) ≡ false ⌝ }
+        requires room { ⌜ vec-len (now self .spans) < 2048 ⌝ }
+        ensures added { λ _. ⌜ Adds (vec-items (now (self .entry) .spans)) span (vec-items (now (self .exit) .spans)) ⌝ }
+        ensures len { λ _. ⌜ vec-len (now (self .exit) .spans) ≡ vec-len (now (self .entry) .spans) + 1 ⌝ }
+    {
         let i = self.place_of(span.start);
-        self.spans.insert(i, span).is_ok()
+        let _ = self.spans.insert(i, span);
     }
 }
