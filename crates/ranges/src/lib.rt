@@ -20,6 +20,8 @@ pub struct Ranges {
     spans: Vec<Span>,
     ghost room: { 2048 ≤ vec-cap spans },
     ghost few: { vec-len spans ≤ 2048 },
+    ghost some: { (i : ℕ) → i < vec-len spans → start-at (vec-items spans) i < end-at (vec-items spans) i },
+    ghost ordered: { (i j : ℕ) → (i < j) × (j < vec-len spans) → end-at (vec-items spans) i ≤ start-at (vec-items spans) j },
 }
 
 impl Ranges {
@@ -43,7 +45,9 @@ impl Ranges {
 
     // The index of the first range that does not start below `start`.
     fn place_of(&self, start: u64) -> usize
-        ensures { λ r. ⌜ r ≤ vec-len (now (self .entry) .spans) ⌝ }
+        ensures within { λ r. ⌜ r ≤ vec-len (now (self .entry) .spans) ⌝ }
+        ensures below { λ r. ⌜ ((i : ℕ) → i < r → start-at (vec-items (now (self .entry) .spans)) i < start) ⌝ }
+        ensures above { λ r. ⌜ ((i : ℕ) → r ≤ i → i < vec-len (now (self .entry) .spans) → start ≤ start-at (vec-items (now (self .entry) .spans)) i) ⌝ }
     {
         let mut low = 0;
         let mut high = self.spans.len();
@@ -67,6 +71,7 @@ impl Ranges {
 
     /// Whether a range shares a byte with one of these. Only its two neighbours can.
     pub fn meets(&self, span: Span) -> bool
+        ensures { λ r. ⌜ r ≡ meets span (vec-items (now (self .entry) .spans)) ⌝ }
     {
         if span.size == 0 {
             self.meets_nothing(span)
@@ -123,6 +128,10 @@ impl Ranges {
 
     /// One range more, unless it is empty, shares a byte with one of these, or finds no room; says whether it was added.
     pub fn insert(&mut self, span: Span) -> bool
+        ensures test { λ r. ⌜ r ≡ (ltb 0 (span .size) && (not (meets span (vec-items (now (self .entry) .spans))) && ltb (vec-len (now (self .entry) .spans)) 2048)) ⌝ }
+        ensures added { λ r. ⌜ (r ≡ true → Adds (vec-items (now (self .entry) .spans)) span (vec-items (now (self .exit) .spans))) ⌝ }
+        ensures len { λ r. ⌜ (r ≡ true → vec-len (now (self .exit) .spans) ≡ vec-len (now (self .entry) .spans) + 1) ⌝ }
+        ensures same { λ r. ⌜ (r ≡ false → now (self .exit) .spans ≡ now (self .entry) .spans) ⌝ }
     {
         if span.size == 0 || self.meets(span) || self.spans.len() >= MOST {
             return false;
