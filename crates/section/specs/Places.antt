@@ -7,9 +7,14 @@ use lib.ListN.{length}
 use Rattle.std.specs.declared.result.Result.{Result}
 use Rattle.std.specs.declared.result.Result.the-variants.{Ok, Err}
 use Rattle.model.specs.declared.types.Span.{Span}
+use Rattle.model.specs.References.{meets}
 use Rattle.model.specs.OpenedLog.{outside, overlaps}
 use Rattle.section.specs.declared.places.Misplaced.{Misplaced}
 use Rattle.section.specs.declared.places.Misplaced.the-variants.{Outside, Full, Overlap}
+
+-- a range shares a byte with one of ss exactly when it does with one of fs
+abbrev pub Alike : List Span → List Span → Type 0
+Alike ss fs = (r : Span) → meets r ss ≡ meets r fs
 
 -- a fragment f is taken in behind the fragments fs exactly when its place is right; refused, they stay
 abbrev pub Admits : {T : Type 0} → ℕ → ℕ → List Span → Span → List Span → Result T Misplaced → Type 0

@@ -1,17 +1,12 @@
 //! The room that opening works in: reserved at once, so that opening itself never wants memory.
 ghost use mathlib.Core.Path.{_≡_};
 ghost use Prim.Native.Nat.{_+_, _≤_};
-ghost use lib.Dec.{ltb};
-ghost use Rattle.model.specs.Headers.{header-span};
-ghost use Rattle.model.specs.References.{share, meets};
-ghost use Rattle.model.specs.OpenedLog.{outside};
 ghost use Rattle.std.specs.Of.Vec.{vec-items, vec-len, vec-cap};
-ghost use Rattle.section.specs.Places.{Admits};
+ghost use Rattle.section.specs.Places.{Alike, Admits};
 use crate::places::Misplaced;
 use crate::places::is_in_header;
 use crate::places::is_outside;
 use counts::table::Counts;
-use format::references::is_absent;
 use model::types::Span;
 use ranges::Ranges;
 use std::alloc::AllocError;
@@ -55,7 +50,7 @@ pub struct Room {
     ghost lists_room: { 1024 ≤ vec-cap lists },
     ghost queue_room: { 1025 ≤ vec-cap queue },
     // the ranges are the fragments, ordered by their starts
-    ghost tied: { (r : Span) → meets r (vec-items (ranges .spans)) ≡ meets r (vec-items fragments) },
+    ghost tied: { Alike (vec-items (ranges .spans)) (vec-items fragments) },
     ghost paired: { vec-len (ranges .spans) ≡ vec-len fragments },
 }
 
