@@ -5,5 +5,4 @@ pub mod files;
 mod lists_pass;
 mod log_pass;
 mod node_walk;
-mod places;
 pub mod room;
