@@ -1,6 +1,8 @@
+//! The definitions of a section file, in specs/, with the values that code shares with them; and two statements about the smallest good file,
+//! on the contracts of functions that do nothing.
 pub mod types;
 pub mod worked;
-// The definitions are in specs/. No code yet: two statements about a small file, on the contracts of functions that do nothing.
+
 ghost use mathlib.Core.Path.{_≡_};
 ghost use Rattle.model.specs.Faults.{done};
 ghost use Rattle.model.specs.Opened.{opened};
