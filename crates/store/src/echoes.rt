@@ -1,6 +1,13 @@
 //! Written once, over any store.
+ghost use mathlib.Core.Path.{_≡_};
+ghost use mathlib.Core.List.{List, _++_};
+ghost use Prim.Native.Nat.{ℕ, _≤_};
+ghost use lib.ListN.{length, drop};
+ghost use Rattle.std.specs.Results.{Cases};
+ghost use Rattle.model.specs.Bytes.{piece};
 ghost use Rattle.store.specs.Rows.{Echoes};
 use crate::base::SavingStore;
+use crate::base::Store;
 use crate::base::StoreFault;
 
 /// Writes bytes and reads them back.
