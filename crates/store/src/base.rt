@@ -1,6 +1,6 @@
 //! What a store is, and what its refusals tell.
 ghost use mathlib.Core.Path.{_≡_};
-ghost use mathlib.Core.List.{List, [], _∷_, _++_};
+ghost use mathlib.Core.List.{List, [], _++_};
 ghost use Prim.Native.Nat.{ℕ, _+_, _^_, _≤_, _<_};
 ghost use lib.ListN.{length, getD};
 ghost use Rattle.std.specs.Orderings.{Decides};
@@ -30,11 +30,17 @@ impl StoreFault {
             StoreFault::Map => 28,
             StoreFault::Cover => 29,
         };
-        Fault { number, layer: 6, place: 0, list: 0 }
+        Fault {
+            number,
+            layer: 6,
+            place: 0,
+            list: 0,
+        }
     }
 }
 
 /// What could not be made into a store is handed back, with the reason.
+#[derive(Drop)]
 pub struct NotMade<P> {
     pub parts: P,
     pub fault: StoreFault,
@@ -92,8 +98,7 @@ pub(crate) fn are_bytes(v: &[u8]) -> bool
     v.is_empty()
 }
 
-/// Whether a store takes `n` bytes at `place`: a write begins in the row or at its end, and ends by the ceiling. One that is refused is no write, and
-/// leaves the row.
+/// Whether a write of `n` bytes at `place` begins in the row or at its end, and ends by the ceiling. Where it does not, no write leaves the row as it is.
 pub(crate) fn has_room<S: Store>(store: &S, place: u64, n: usize) -> bool
     ensures test { λ r. ⌜ Decides r ((place ≤ length (S·Store .bytes (now (store .entry)))) × (place + n ≤ S·Store .most (now (store .entry)))) ⌝ }
     ensures none { λ _. ⌜ S·Store .bytes (now (store .entry)) ≡ applied (S·Store .bytes (now (store .entry))) [] ⌝ }

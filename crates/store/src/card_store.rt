@@ -62,14 +62,25 @@ fn map_fits(blocks: &[u32], size: usize) -> bool
 
 impl Card {
     /// The first `len` bytes of the blocks in the order of the map, made exactly when the map fits the buffer and the length the map.
-    pub fn new(buffer: Vec<u8>, blocks: Vec<u32>, len: u64) -> Result<Card, NotMade<(Vec<u8>, Vec<u32>)>>
+    pub fn new(
+        buffer: Vec<u8>,
+        blocks: Vec<u32>,
+        len: u64,
+    ) -> Result<Card, NotMade<(Vec<u8>, Vec<u32>)>>
         ensures { λ r. ⌜ Cases r (λ d. MapFits (vec-len buffer) (vec-items blocks) × (len ≤ 512 * vec-len blocks) × (d .buffer ≡ buffer) × (d .blocks ≡ blocks) × (d .len ≡ len)) (λ e. (MapFits (vec-len buffer) (vec-items blocks) → len ≤ 512 * vec-len blocks → ⊥) × (e .parts .0 ≡ buffer) × (e .parts .1 ≡ blocks) × (told (e .fault) ≡ fault 28 6 0 0)) ⌝ }
     {
         if !map_fits(blocks.as_slice(), buffer.len()) || len as usize > 512 * blocks.len() {
-            return Err(NotMade { parts: (buffer, blocks), fault: StoreFault::Map });
+            return Err(NotMade {
+                parts: (buffer, blocks),
+                fault: StoreFault::Map,
+            });
         }
         let _ = are_bytes(buffer.as_slice());
-        Ok(Card { buffer, blocks, len: len as usize })
+        Ok(Card {
+            buffer,
+            blocks,
+            len: len as usize,
+        })
     }
 
     // Where byte `k` of the row lies in the buffer.

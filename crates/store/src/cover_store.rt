@@ -1,6 +1,6 @@
 //! Any store without its first blocks.
 ghost use mathlib.Core.Path.{_≡_};
-ghost use Prim.Native.Nat.{ℕ, _+_, _*_, _≤_};
+ghost use Prim.Native.Nat.{_+_, _*_, _≤_};
 ghost use lib.ListN.{length, drop};
 ghost use Rattle.std.specs.Results.{Cases};
 ghost use Rattle.model.specs.Bytes.{put, applied};
@@ -27,7 +27,10 @@ impl<S: Store> Cover<S> {
         ensures { λ r. ⌜ Cases r (λ v. (blocks ≤ 8) × (512 * blocks ≤ length (S·Store .bytes inner)) × (v .inner ≡ inner) × (v .blocks ≡ blocks)) (λ e. (blocks ≤ 8 → 512 * blocks ≤ length (S·Store .bytes inner) → ⊥) × (e .parts ≡ inner) × (told (e .fault) ≡ fault 29 6 0 0)) ⌝ }
     {
         if blocks > 8 || inner.len() < 512 * blocks {
-            return Err(NotMade { parts: inner, fault: StoreFault::Cover });
+            return Err(NotMade {
+                parts: inner,
+                fault: StoreFault::Cover,
+            });
         }
         Ok(Cover { inner, blocks })
     }
@@ -41,7 +44,13 @@ fn len_cut<S: Store>(inner: &S, skip: u64) -> u64
 }
 
 // Reads from what is left behind the first `skip` bytes. A read of nothing is done here, since the store may end before them.
-fn read_cut<S: Store>(inner: &S, skip: u64, place: u64, n: usize, buffer: &mut [u8]) -> Result<(), StoreFault>
+fn read_cut<S: Store>(
+    inner: &S,
+    skip: u64,
+    place: u64,
+    n: usize,
+    buffer: &mut [u8],
+) -> Result<(), StoreFault>
     requires { ⌜ place ≤ length (drop skip (S·Store .bytes (now inner))) ⌝ }
     ensures { λ r. ⌜ Reads (drop skip (S·Store .bytes (now (inner .entry)))) place n (now (buffer .entry)) (now (buffer .exit)) r ⌝ }
 {
@@ -52,7 +61,12 @@ fn read_cut<S: Store>(inner: &S, skip: u64, place: u64, n: usize, buffer: &mut [
 }
 
 // Writes into what is left behind the first `skip` bytes.
-fn write_cut<S: SavingStore>(inner: &mut S, skip: u64, place: u64, new: &[u8]) -> Result<(), StoreFault>
+fn write_cut<S: SavingStore>(
+    inner: &mut S,
+    skip: u64,
+    place: u64,
+    new: &[u8],
+) -> Result<(), StoreFault>
     requires { ⌜ place ≤ length (drop skip (S·Store .bytes (now inner))) ⌝ }
     ensures row { λ r. ⌜ Writes (drop skip (S·Store .bytes (now (inner .entry)))) (cut-most (S·Store .bytes (now (inner .entry))) (S·Store .most (now (inner .entry))) skip) place (now (new .entry)) (drop skip (S·Store .bytes (now (inner .exit)))) r ⌝ }
     ensures ceiling { λ _. ⌜ cut-most (S·Store .bytes (now (inner .exit))) (S·Store .most (now (inner .exit))) skip ≡ cut-most (S·Store .bytes (now (inner .entry))) (S·Store .most (now (inner .entry))) skip ⌝ }

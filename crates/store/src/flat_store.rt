@@ -29,10 +29,16 @@ impl Flat {
         ensures { λ r. ⌜ Cases r (λ f. (len ≤ vec-len buffer) × (f .buffer ≡ buffer) × (f .len ≡ len)) (λ e. (len ≤ vec-len buffer → ⊥) × (e .parts ≡ buffer) × (told (e .fault) ≡ fault 28 6 0 0)) ⌝ }
     {
         if len as usize > buffer.len() {
-            return Err(NotMade { parts: buffer, fault: StoreFault::Map });
+            return Err(NotMade {
+                parts: buffer,
+                fault: StoreFault::Map,
+            });
         }
         let _ = are_bytes(buffer.as_slice());
-        Ok(Flat { buffer, len: len as usize })
+        Ok(Flat {
+            buffer,
+            len: len as usize,
+        })
     }
 
     // Copies `n` bytes at `p` to the front of `into`.
