@@ -98,7 +98,8 @@ pub(crate) fn are_bytes(v: &[u8]) -> bool
     v.is_empty()
 }
 
-/// Whether a write of `n` bytes at `place` begins in the row or at its end, and ends by the ceiling. Where it does not, no write leaves the row as it is.
+/// Whether a write of `n` bytes at `place` begins in the row or at its end, and ends by the ceiling.
+/// And that a row after no writes is that row, which a refused write needs.
 pub(crate) fn has_room<S: Store>(store: &S, place: u64, n: usize) -> bool
     ensures test { λ r. ⌜ Decides r ((place ≤ length (S·Store .bytes (now (store .entry)))) × (place + n ≤ S·Store .most (now (store .entry)))) ⌝ }
     ensures none { λ _. ⌜ S·Store .bytes (now (store .entry)) ≡ applied (S·Store .bytes (now (store .entry))) [] ⌝ }

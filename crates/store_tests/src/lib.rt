@@ -148,22 +148,29 @@ mod tests {
     }
 
     // The buffer, handed back with a map that does not fit.
-    fn without(buffer: Vec<u8>, blocks: Vec<u32>, len: u64) -> Result<Vec<u8>, Fail> {
-        let before = (buffer.len(), blocks.len());
+    fn without(
+        rt: &LibcRuntime,
+        buffer: Vec<u8>,
+        map: &[u32],
+        len: u64,
+    ) -> Result<Vec<u8>, Fail> {
+        let blocks = map.to_vec(rt.alloc())?;
         let (buffer, blocks) = not_made(Card::new(buffer, blocks, len), 28)?;
-        check_eq((buffer.len(), blocks.len()), before)?;
+        check_eq(blocks.as_slice(), map)?;
         Ok(buffer)
     }
 
     #[test]
     fn maps(rt: LibcRuntime) -> Result<(), Fail> {
         let buffer = vec![in rt.alloc(); 0u8; 2047]?;
-        let buffer = without(buffer, vec![in rt.alloc()]?, 0)?;
-        let buffer = without(buffer, vec![in rt.alloc(); 0u32, 1, 0]?, 0)?;
-        // the last block is not whole
-        let buffer = without(buffer, vec![in rt.alloc(); 0u32, 3]?, 0)?;
-        let buffer = without(buffer, vec![in rt.alloc(); 0u32, 2]?, 1025)?;
-        let s = made(Card::new(buffer, vec![in rt.alloc(); 0u32, 2]?, 1024))?;
+        let buffer = without(&rt, buffer, &[], 0)?;
+        let buffer = without(&rt, buffer, &[0, 1, 0], 0)?;
+        // block 3 is not whole
+        let buffer = without(&rt, buffer, &[0, 3], 0)?;
+        let buffer = without(&rt, buffer, &[0, 2], 1025)?;
+        check_eq(buffer.len(), 2047)?;
+        let blocks = [0u32, 2].to_vec(rt.alloc())?;
+        let s = made(Card::new(buffer, blocks, 1024))?;
         check_eq(s.len(), 1024)
     }
 
@@ -191,28 +198,19 @@ mod tests {
     }
 
     #[test]
-    fn covered_twice(rt: LibcRuntime) -> Result<(), Fail> {
-        let buffer = vec![in rt.alloc(); 0u8; 1536]?;
-        let flat = made(Flat::new(buffer, 1030))?;
-        let one = made(Cover::new(flat, 1))?;
-        // 518 bytes are left
-        let one = not_made(Cover::new(one, 2), 29)?;
-        let mut two = made(Cover::new(one, 1))?;
-        check_eq(two.len(), 6)?;
-        tried(&mut two)?;
-        check_eq(two.ceiling(), 512)
-    }
-
-    #[test]
     fn covers(rt: LibcRuntime) -> Result<(), Fail> {
         let buffer = vec![in rt.alloc(); 0u8; 5120]?;
-        let flat = made(Flat::new(buffer, 5000))?;
+        let flat = made(Flat::new(buffer, 4614))?;
         let flat = not_made(Cover::new(flat, 9), 29)?;
         let flat = not_made(Cover::new(flat, u64::MAX), 29)?;
-        check_eq(flat.len(), 5000)?;
         let eight = made(Cover::new(flat, 8))?;
-        let none = made(Cover::new(eight, 0))?;
-        check_eq(none.len(), 904)?;
-        check_eq(none.ceiling(), 1024)
+        // 518 bytes are left
+        let eight = not_made(Cover::new(eight, 2), 29)?;
+        let mut nine = made(Cover::new(eight, 1))?;
+        check_eq(nine.len(), 6)?;
+        tried(&mut nine)?;
+        let none = made(Cover::new(nine, 0))?;
+        check_eq(none.len(), 512)?;
+        check_eq(none.ceiling(), 512)
     }
 }
