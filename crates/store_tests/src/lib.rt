@@ -86,11 +86,16 @@ mod tests {
         check_eq(buffer, [2, 3, 4, 5, 6, 9, 9, 9])
     }
 
+    // A place past the length takes no write.
+    fn not_written<S: SavingStore>(s: &mut S, place: u64) -> Result<(), Fail> {
+        is_refused(s.write(place, &[8, 8, 8, 8]))?;
+        is_refused(s.write(place, &[]))
+    }
+
     // Writes to a store of the bytes 1 to 6: past its length they leave it, at its length they add to it.
     fn writes<S: SavingStore>(s: &mut S) -> Result<(), Fail> {
         for place in [7, u64::MAX - 3, u64::MAX] {
-            is_refused(s.write(place, &[8, 8, 8, 8]))?;
-            is_refused(s.write(place, &[]))?;
+            not_written(s, place)?;
         }
         is_refused(echo(s, 0, &[8, 8], &mut [0u8; 1]))?;
         s.write(6, &[])?;
@@ -100,23 +105,28 @@ mod tests {
         check_eq(s.len(), 7)
     }
 
-    // Writes up to the ceiling, at it and past it.
-    fn fills<S: SavingStore>(s: &mut S) -> Result<(), Fail> {
-        let most = s.ceiling();
-        for place in s.len()..most {
-            s.write(place, &[8])?;
-        }
+    // Writes at the ceiling of a full store, around it and past it.
+    fn ends<S: SavingStore>(s: &mut S, most: u64) -> Result<(), Fail> {
         let last = most.saturating_sub(1);
         s.write(most, &[])?;
         is_refused(s.write(most, &[9]))?;
         is_refused(s.write(last, &[9, 9]))?;
-        is_refused(s.write(most.saturating_add(1), &[]))?;
-        check_eq(s.len(), most)?;
+        not_written(s, most.saturating_add(1))?;
         let mut back = [0u8; 1];
         s.read(last, 1, &mut back)?;
         check_eq(back, [8])?;
         echo(s, last, &[9], &mut back)?;
         check_eq(back, [9])
+    }
+
+    // Byte by byte up to the ceiling.
+    fn fills<S: SavingStore>(s: &mut S) -> Result<(), Fail> {
+        let most = s.ceiling();
+        for place in s.len()..most {
+            s.write(place, &[8])?;
+        }
+        ends(s, most)?;
+        check_eq(s.len(), most)
     }
 
     // The same calls on any store of at most 6 bytes with room for more.
@@ -148,12 +158,7 @@ mod tests {
     }
 
     // The buffer, handed back with a map that does not fit.
-    fn without(
-        rt: &LibcRuntime,
-        buffer: Vec<u8>,
-        map: &[u32],
-        len: u64,
-    ) -> Result<Vec<u8>, Fail> {
+    fn without(rt: &LibcRuntime, buffer: Vec<u8>, map: &[u32], len: u64) -> Result<Vec<u8>, Fail> {
         let blocks = map.to_vec(rt.alloc())?;
         let (buffer, blocks) = not_made(Card::new(buffer, blocks, len), 28)?;
         check_eq(blocks.as_slice(), map)?;
