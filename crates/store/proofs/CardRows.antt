@@ -1,12 +1,11 @@
 -- Laws of a card's row.
 use Prim.Native.Nat.{ℕ, _+_, _-_, _*_, _/_, _%_, _≤_, _<_, suc}
 use mathlib.Core.Path.{_≡_, refl, sym, ap, _∙_}
-use mathlib.Core.List.{List, [], _∷_, _++_}
-use mathlib.Core.Logic.{⊎-elim, inl, inr, _⊎_}
-use lib.ListN.{length, take, drop, getD, set}
+use mathlib.Core.List.{List, [], _∷_}
+use mathlib.Core.Logic.{⊎-elim}
+use lib.ListN.{length, drop, getD, set}
 use native.Mathlib.Omega.{arith}
-use borrow.Author.Needs.{needs}
-use Rattle.std.proofs.shelf.Lists.{same-lists, places, length-append, length-take, length-drop, length-set, ext-getD, getD-append-left, getD-append-right, getD-take, getD-drop, getD-set-same, getD-set-other}
+use Rattle.std.proofs.shelf.Lists.{length-append, length-take, length-drop, length-set, ext-getD, getD-append-left, getD-append-right, getD-take, getD-drop, getD-set-same, getD-set-other}
 use Rattle.std.proofs.shelf.Tests.{cases-lt, cases-order, cases-eq}
 use Rattle.store.specs.Cards.{block, card-row, spot, Inside, Apart}
 

@@ -1,22 +1,19 @@
 -- Laws of a row without its first k bytes: what a store's calls do, seen through the cut.
 use Prim.Native.Nat.{ℕ, _+_, _-_, _≤_, _<_}
-use mathlib.Core.Path.{_≡_, refl, sym, ap, _∙_}
-use mathlib.Core.Bool.{true, false}
+use mathlib.Core.Path.{_≡_, refl, ap, _∙_}
 use mathlib.Core.List.{List, [], _∷_, _++_}
-use mathlib.Core.Logic.{_⊎_, inl, inr}
 use lib.ListN.{length, drop}
-use lib.Dec.{eqb}
 use native.Mathlib.Omega.{arith}
 use borrow.Author.Needs.{needs}
-use Rattle.std.proofs.shelf.Lists.{same-lists, places, length-drop, drop-drop}
+use Rattle.std.proofs.shelf.Lists.{same-lists, places, length-drop}
 use Rattle.std.proofs.shelf.Ways.{tells}
 use Rattle.std.specs.declared.result.Result.{Result}
 use Rattle.std.specs.declared.result.Result.the-variants.{Ok, Err}
-use Rattle.model.specs.Bytes.{Write, put, piece, written, applied}
+use Rattle.model.specs.Bytes.{Write, put, piece, written}
 use Rattle.store.specs.declared.base.StoreFault.{StoreFault}
 use Rattle.store.specs.Rows.{Reads, Writes, if-done}
 use Rattle.store.specs.Covers.{cut-most, shifted}
-use Rattle.store.proofs.Rows.{length-written, written-none}
+use Rattle.store.proofs.Rows.{length-written}
 
 pub cut-within : (row : List ℕ) (most k : ℕ) → length row ≤ most → length (drop k row) ≤ cut-most row most k
 cut-within row most k h = grind (arith, tells, length-drop)

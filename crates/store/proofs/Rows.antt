@@ -1,5 +1,5 @@
 -- Laws of rows: pieces and writes, and the same of a row without its first bytes.
-use Prim.Native.Nat.{ℕ, _+_, _-_, _≤_, _<_, max, min}
+use Prim.Native.Nat.{ℕ, _+_, _≤_, _<_, max, min}
 use mathlib.Core.Path.{_≡_, refl, sym, ap, _∙_}
 use mathlib.Core.List.{List, [], _∷_, _++_}
 use mathlib.Core.Logic.{⊎-elim}
@@ -7,15 +7,15 @@ use lib.ListN.{length, take, drop, getD, set}
 use lib.Seq.{paste}
 use native.Mathlib.Omega.{arith}
 use borrow.Author.Needs.{needs}
-use Rattle.std.proofs.shelf.Lists.{same-lists, places, length-append, length-take, length-drop, drop-drop, getD-set-same, getD-default, getD-take, getD-drop, getD-past}
+use Rattle.std.proofs.shelf.Lists.{same-lists, places, length-append, length-take, length-drop, getD-set-same, getD-default, getD-take, getD-drop, getD-past}
 use Rattle.std.proofs.shelf.Tests.{cases-eq, cases-lt}
 use Rattle.std.proofs.shelf.Edits.{paste-all}
-use Rattle.std.proofs.shelf.Ways.{tells}
 use Rattle.std.specs.declared.result.Result.{Result}
 use Rattle.std.specs.declared.result.Result.the-variants.{Ok, Err}
+use Rattle.std.specs.Results.{Cases}
 use Rattle.model.specs.Bytes.{Write, put, piece, written, applied}
 use Rattle.store.specs.declared.base.StoreFault.{StoreFault}
-use Rattle.store.specs.Rows.{Reads, Writes, if-done, Echoes}
+use Rattle.store.specs.Rows.{Reads, Writes, if-done}
 
 pub piece-take : (row : List ℕ) (p n k : ℕ) → p + n ≤ k → k ≤ length row → piece (take k row) p n ≡ piece row p n
 unfolding piece
@@ -60,13 +60,11 @@ pub piece-written : (row : List ℕ) (p : ℕ) (new : List ℕ) → p ≤ length
 unfolding piece written
 piece-written row p new h = same-lists _ _ (search (needs, places)) (λ i d g. grind (arith, places))
 
-pub echoed : {T : Type 0} (row : List ℕ) (most p : ℕ) (new after was is : List ℕ) (r : Result T StoreFault)
-    → p ≤ length row → p + length new ≤ most → length new ≤ length was → after ≡ written row p new → Reads after p (length new) was is r
-    → Echoes row most p new after was is r
-echoed row most p new after was is (Ok x) a b c e (h, f, q) =
-    (a, b, c, e, q ∙ ap (λ xs. xs ++ drop (length new) was) (ap (λ xs. piece xs p (length new)) e ∙ piece-written row p new a))
-echoed row most p new after was is (Err x) a b c e (h, same, q) =
-    let l = ap length e ∙ length-written row p new a in absurd (h (omega arith) c)
+pub read-back : {T : Type 0} (row : List ℕ) (p : ℕ) (new after was is : List ℕ) (r : Result T StoreFault)
+    → p ≤ length row → length new ≤ length was → after ≡ written row p new → Reads after p (length new) was is r
+    → Cases r (λ x. is ≡ new ++ drop (length new) was) (λ x. ⊥)
+read-back row p new after was is (Ok x) a c e (h, f, q) = q ∙ ap (λ xs. xs ++ drop (length new) was) (ap (λ xs. piece xs p (length new)) e ∙ piece-written row p new a)
+read-back row p new after was is (Err x) a c e (h, same, q) = let l = ap length e ∙ length-written row p new a in h (omega arith) c
 
 -- writes in a row, after writes
 pub applied-append : (b : List ℕ) (v w : List Write) → applied b (v ++ w) ≡ applied (applied b v) w

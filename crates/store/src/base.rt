@@ -1,8 +1,9 @@
 //! What a store is, and what its refusals tell.
 ghost use mathlib.Core.Path.{_≡_};
-ghost use mathlib.Core.List.{List, [], _∷_, _++_};
-ghost use Prim.Native.Nat.{ℕ, _^_, _≤_, _<_};
+ghost use mathlib.Core.List.{List, [], _++_};
+ghost use Prim.Native.Nat.{ℕ, _+_, _^_, _≤_, _<_};
 ghost use lib.ListN.{length, getD};
+ghost use Rattle.std.specs.Orderings.{Decides};
 ghost use Rattle.model.specs.Bytes.{Write, put, applied};
 ghost use Rattle.store.specs.Refusals.{told};
 ghost use Rattle.store.specs.Rows.{Reads, Writes, if-done};
@@ -29,7 +30,12 @@ impl StoreFault {
             StoreFault::Map => 28,
             StoreFault::Cover => 29,
         };
-        Fault { number, layer: 6, place: 0, list: 0 }
+        Fault {
+            number,
+            layer: 6,
+            place: 0,
+            list: 0,
+        }
     }
 }
 
@@ -90,4 +96,13 @@ pub(crate) fn are_bytes(v: &[u8]) -> bool
     ensures { λ r. ⌜ ((k : ℕ) → getD (now (v .entry)) k 0 < 256) ⌝ }
 {
     v.is_empty()
+}
+
+/// Whether a write of `n` bytes at `place` begins in the row or at its end, and ends by the ceiling.
+/// And that a row after no writes is that row, which a refused write needs.
+pub(crate) fn has_room<S: Store>(store: &S, place: u64, n: usize) -> bool
+    ensures test { λ r. ⌜ Decides r ((place ≤ length (S·Store .bytes (now (store .entry)))) × (place + n ≤ S·Store .most (now (store .entry)))) ⌝ }
+    ensures none { λ _. ⌜ S·Store .bytes (now (store .entry)) ≡ applied (S·Store .bytes (now (store .entry))) [] ⌝ }
+{
+    place <= store.len() && n as u64 <= store.ceiling() - place
 }

@@ -1,12 +1,13 @@
 //! 512-byte blocks of a buffer, in the order of a map.
 ghost use mathlib.Core.Path.{_≡_};
 ghost use mathlib.Core.Bool.{true, false};
+ghost use mathlib.Core.List.{[], _∷_, _++_};
 ghost use Prim.Native.Nat.{ℕ, _+_, _*_, _≤_, _<_};
-ghost use lib.ListN.{length, take, getD, set};
+ghost use lib.ListN.{length, take, drop, getD, set};
 ghost use Rattle.std.specs.Of.Vec.{vec-items, vec-len};
 ghost use Rattle.std.specs.Orderings.{Decides};
 ghost use Rattle.std.specs.Results.{Cases};
-ghost use Rattle.model.specs.Bytes.{applied};
+ghost use Rattle.model.specs.Bytes.{put, piece, written, applied};
 ghost use Rattle.model.specs.Faults.{fault};
 ghost use Rattle.store.specs.Refusals.{told};
 ghost use Rattle.store.specs.Cards.{MapFits, Inside, Apart, card-row, spot};
@@ -15,6 +16,7 @@ use crate::base::SavingStore;
 use crate::base::Store;
 use crate::base::StoreFault;
 use crate::base::are_bytes;
+use crate::base::has_room;
 
 #[derive(Drop)]
 pub struct Card {
@@ -60,14 +62,25 @@ fn map_fits(blocks: &[u32], size: usize) -> bool
 
 impl Card {
     /// The first `len` bytes of the blocks in the order of the map, made exactly when the map fits the buffer and the length the map.
-    pub fn new(buffer: Vec<u8>, blocks: Vec<u32>, len: u64) -> Result<Card, NotMade<(Vec<u8>, Vec<u32>)>>
+    pub fn new(
+        buffer: Vec<u8>,
+        blocks: Vec<u32>,
+        len: u64,
+    ) -> Result<Card, NotMade<(Vec<u8>, Vec<u32>)>>
         ensures { λ r. ⌜ Cases r (λ d. MapFits (vec-len buffer) (vec-items blocks) × (len ≤ 512 * vec-len blocks) × (d .buffer ≡ buffer) × (d .blocks ≡ blocks) × (d .len ≡ len)) (λ e. (MapFits (vec-len buffer) (vec-items blocks) → len ≤ 512 * vec-len blocks → ⊥) × (e .parts .0 ≡ buffer) × (e .parts .1 ≡ blocks) × (told (e .fault) ≡ fault 28 6 0 0)) ⌝ }
     {
         if !map_fits(blocks.as_slice(), buffer.len()) || len as usize > 512 * blocks.len() {
-            return Err(NotMade { parts: (buffer, blocks), fault: StoreFault::Map });
+            return Err(NotMade {
+                parts: (buffer, blocks),
+                fault: StoreFault::Map,
+            });
         }
         let _ = are_bytes(buffer.as_slice());
-        Ok(Card { buffer, blocks, len: len as usize })
+        Ok(Card {
+            buffer,
+            blocks,
+            len: len as usize,
+        })
     }
 
     // Where byte `k` of the row lies in the buffer.
@@ -80,7 +93,7 @@ impl Card {
     }
 
     // Sets byte `k` of the row.
-    fn put(&mut self, k: usize, b: u8)
+    fn set_byte(&mut self, k: usize, b: u8)
         requires { ⌜ k < 512 * vec-len (now self .blocks) ⌝ }
         ensures row { λ _. ⌜ card-row (vec-items (now (self .exit) .buffer)) (vec-items (now (self .entry) .blocks)) ≡ set (card-row (vec-items (now (self .entry) .buffer)) (vec-items (now (self .entry) .blocks))) k b ⌝ }
         ensures blocks { λ _. ⌜ now (self .exit) .blocks ≡ now (self .entry) .blocks ⌝ }
@@ -88,6 +101,38 @@ impl Card {
     {
         let at = self.spot_of(k);
         self.buffer[at] = b;
+    }
+
+    // How many bytes the row has: all that the length says.
+    fn size(&self) -> usize
+        ensures row { λ r. ⌜ r ≡ length (take (now (self .entry) .len) (card-row (vec-items (now (self .entry) .buffer)) (vec-items (now (self .entry) .blocks)))) ⌝ }
+        ensures stored { λ r. ⌜ r ≡ now (self .entry) .len ⌝ }
+    {
+        self.len
+    }
+
+    // Copies `n` bytes at `p` to the front of `into`.
+    fn copy_out(&self, p: usize, n: usize, into: &mut [u8])
+        requires { ⌜ p + n ≤ now self .len ⌝ ∗ ⌜ n ≤ length (now into) ⌝ }
+        ensures { λ _. ⌜ now (into .exit) ≡ piece (take (now (self .entry) .len) (card-row (vec-items (now (self .entry) .buffer)) (vec-items (now (self .entry) .blocks)))) p n ++ drop n (now (into .entry)) ⌝ }
+    {
+        for i in 0..n {
+            into[i] = self.buffer[self.spot_of(p + i)];
+        }
+    }
+
+    // Puts bytes at `p`, and the end behind them where they pass it.
+    fn paste(&mut self, p: usize, new: &[u8])
+        requires { ⌜ p ≤ length (take (now self .len) (card-row (vec-items (now self .buffer)) (vec-items (now self .blocks)))) ⌝ ∗ ⌜ p + length (now new) ≤ 512 * vec-len (now self .blocks) ⌝ }
+        ensures row { λ _. ⌜ take (now (self .exit) .len) (card-row (vec-items (now (self .exit) .buffer)) (vec-items (now (self .exit) .blocks))) ≡ written (take (now (self .entry) .len) (card-row (vec-items (now (self .entry) .buffer)) (vec-items (now (self .entry) .blocks)))) p (now (new .entry)) ⌝ }
+        ensures trail { λ _. ⌜ take (now (self .exit) .len) (card-row (vec-items (now (self .exit) .buffer)) (vec-items (now (self .exit) .blocks))) ≡ applied (take (now (self .entry) .len) (card-row (vec-items (now (self .entry) .buffer)) (vec-items (now (self .entry) .blocks)))) (put p (now (new .entry)) ∷ []) ⌝ }
+        ensures blocks { λ _. ⌜ now (self .exit) .blocks ≡ now (self .entry) .blocks ⌝ }
+    {
+        let n = new.len();
+        for i in 0..n {
+            self.set_byte(p + i, new[i]);
+        }
+        self.len = self.len.max(p + n);
     }
 }
 
@@ -97,7 +142,7 @@ pub impl Store for Card as CardStore {
     ghost most = { λ s. 512 * vec-len (s .blocks) };
 
     fn len(&self) -> u64 {
-        self.len as u64
+        self.size() as u64
     }
 
     fn ceiling(&self) -> u64 {
@@ -106,12 +151,11 @@ pub impl Store for Card as CardStore {
 
     fn read(&self, place: u64, n: usize, buffer: &mut [u8]) -> Result<(), StoreFault> {
         let p = place as usize;
-        if p > self.len || n > self.len - p || n > buffer.len() {
+        let len = self.size();
+        if p > len || n > len - p || n > buffer.len() {
             return Err(StoreFault::Range);
         }
-        for i in 0..n {
-            buffer[i] = self.buffer[self.spot_of(p + i)];
-        }
+        self.copy_out(p, n, buffer);
         Ok(())
     }
 }
@@ -120,15 +164,10 @@ pub impl SavingStore for Card as CardSaving {
     ghost wrote = { λ s ws t. (take (t .len) (card-row (vec-items (t .buffer)) (vec-items (t .blocks))) ≡ applied (take (s .len) (card-row (vec-items (s .buffer)) (vec-items (s .blocks)))) ws) × (t .blocks ≡ s .blocks) };
 
     fn write(&mut self, place: u64, new: &[u8]) -> Result<(), StoreFault> {
-        let p = place as usize;
-        let n = new.len();
-        if p > self.len || n > 512 * self.blocks.len() - p {
+        if !has_room(self, place, new.len()) {
             return Err(StoreFault::Range);
         }
-        for i in 0..n {
-            self.put(p + i, new[i]);
-        }
-        self.len = self.len.max(p + n);
+        self.paste(place as usize, new);
         Ok(())
     }
 }

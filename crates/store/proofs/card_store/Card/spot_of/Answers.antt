@@ -1,8 +1,8 @@
-use Prim.Native.Nat.{_+_, _*_, _%_, _/_, _<_}
+use Prim.Native.Nat.{_+_, _*_, _%_, _/_}
 use mathlib.Core.Path.{_≡_, ap}
-use lib.ListN.{getD, length}
+use lib.ListN.{getD}
 use native.Mathlib.Omega.{arith}
-use Rattle.std.specs.Of.Vec.{vec-items, vec-len}
+use Rattle.std.specs.Of.Vec.{vec-items}
 use Rattle.std.proofs.shelf.Lists.{getD-read-under}
 use Rattle.store.proofs.CardFacts.{spot-in}
 use Rattle.store.proofs.card_store.Card.spot_of.Needs as need

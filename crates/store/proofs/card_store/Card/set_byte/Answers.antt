@@ -3,7 +3,7 @@ use lib.ListN.{set}
 use Rattle.std.specs.Of.Vec.{vec-items}
 use Rattle.store.specs.Cards.{card-row}
 use Rattle.store.proofs.CardFacts.{row-set}
-use Rattle.store.proofs.card_store.Card.put.Needs as need
+use Rattle.store.proofs.card_store.Card.set_byte.Needs as need
 
 pub returns : need.returns
 returns c =

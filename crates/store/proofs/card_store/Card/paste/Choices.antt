@@ -2,7 +2,7 @@ use mathlib.Core.Path.{_≡_}
 use lib.Seq.{paste}
 use Rattle.std.specs.Of.Vec.{vec-items}
 use Rattle.store.specs.Cards.{card-row}
-use Rattle.store.proofs.card_store.CardSaving.write.Given as given
+use Rattle.store.proofs.card_store.Card.paste.Given as given
 
 abbrev pub Inv-loop-i : given.InvT-loop-i
 Inv-loop-i l =

@@ -4,7 +4,7 @@ use lib.ListN.{drop}
 use Rattle.std.specs.Of.Vec.{vec-items}
 use Rattle.store.specs.Cards.{card-row}
 use Rattle.model.specs.Bytes.{piece}
-use Rattle.store.proofs.card_store.CardStore.read.Given as given
+use Rattle.store.proofs.card_store.Card.copy_out.Given as given
 
 abbrev pub Inv-loop-i : given.InvT-loop-i
-Inv-loop-i l = l .buffer ≡ piece (card-row (vec-items (l .self .buffer)) (vec-items (l .self .blocks))) (l .p) (l .i) ++ drop (l .i) (l .entry .buffer)
+Inv-loop-i l = l .into ≡ piece (card-row (vec-items (l .self .buffer)) (vec-items (l .self .blocks))) (l .p) (l .i) ++ drop (l .i) (l .entry .into)
