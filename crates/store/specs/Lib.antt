@@ -1,4 +1,2 @@
 pub mod Refusals
 pub mod Rows
-pub mod Cards
-pub mod Covers

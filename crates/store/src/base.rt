@@ -92,7 +92,7 @@ pub trait SavingStore: Store {
 }
 
 /// That bytes are bytes: the call costs nothing, and its contract says it.
-pub(crate) fn are_bytes(v: &[u8]) -> bool
+pub fn are_bytes(v: &[u8]) -> bool
     ensures { λ r. ⌜ ((k : ℕ) → getD (now (v .entry)) k 0 < 256) ⌝ }
 {
     v.is_empty()
@@ -100,7 +100,7 @@ pub(crate) fn are_bytes(v: &[u8]) -> bool
 
 /// Whether a write of `n` bytes at `place` begins in the row or at its end, and ends by the ceiling.
 /// And that a row after no writes is that row, which a refused write needs.
-pub(crate) fn has_room<S: Store>(store: &S, place: u64, n: usize) -> bool
+pub fn has_room<S: Store>(store: &S, place: u64, n: usize) -> bool
     ensures test { λ r. ⌜ Decides r ((place ≤ length (S·Store .bytes (now (store .entry)))) × (place + n ≤ S·Store .most (now (store .entry)))) ⌝ }
     ensures none { λ _. ⌜ S·Store .bytes (now (store .entry)) ≡ applied (S·Store .bytes (now (store .entry))) [] ⌝ }
 {

@@ -11,12 +11,12 @@ mod tests {
     use store::base::Store;
     use store::base::StoreFault;
     use store::base::StoreFaultDebug;
-    use store::card_store::Card;
-    use store::card_store::CardSaving;
-    use store::card_store::CardStore;
-    use store::cover_store::Cover;
-    use store::cover_store::CoverSaving;
-    use store::cover_store::CoverStore;
+    use card_store::Card;
+    use card_store::CardSaving;
+    use card_store::CardStore;
+    use cover_store::Cover;
+    use cover_store::CoverSaving;
+    use cover_store::CoverStore;
     use store::echoes::echo;
     use store::flat_store::Flat;
     use store::flat_store::FlatSaving;

@@ -1,0 +1,2 @@
+pub mod CardRows
+pub mod CardFacts

@@ -1,6 +1,0 @@
-use borrow.Author.Needs.{needs}
-use Rattle.std.proofs.shelf.Lists.{length-drop}
-use Rattle.store.proofs.cover_store.len_cut.Needs as need
-
-pub returns : need.returns
-returns g c = search (needs, length-drop)
