@@ -98,9 +98,9 @@ module _ (ss : List Span) (n : ℕ)
           grind (arith, tells)
     ]
 
-    -- a range meets the others where it meets the one before its place or the one at it
-    pub near-meets : near s ss n i ≡ meets s ss
-    near-meets = elim (cases-bool (reaches (s .start) ss i)) [
+    -- so only the neighbours count
+    some-meets : (reaches (s .start) ss i || begins-within s ss n i) ≡ meets s ss
+    some-meets = elim (cases-bool (reaches (s .start) ss i)) [
       | inl e ↦ let m = before-meets e in grind (arith, tells)
       | inr e ↦ elim (cases-bool (begins-within s ss n i)) [
         | inl f ↦ let m = behind-meets f in grind (arith, tells)
@@ -143,3 +143,11 @@ module _ (ss : List Span) (n : ℕ)
         ]
         | inr (inr b) ↦ let p = high j b in let q = high k (omega arith) in let z = ordered (j - 1) (k - 1) (omega arith, omega arith) in grind arith
       ]
+
+  -- a range meets the others where it meets the one before its place or the one at it
+  pub near-meets : n ≡ length ss → (s : Span) (i : ℕ) → i ≤ n → ((k : ℕ) → k < i → start-at ss k < s .start) → ((k : ℕ) → i ≤ k → k < n → s .start ≤ start-at ss k)
+      → near s ss n i ≡ meets s ss
+  near-meets long s i in′ below above = elim (cases-lt 0 (s .size)) [
+    | inl p ↦ let m = some-meets long s p i in′ below above in grind (arith, tells)
+    | inr p ↦ let m = meets-empty s ss (omega arith) in grind (arith, tells)
+  ]

@@ -23,9 +23,9 @@ reaches start ss i = ltb 0 i && ltb start (end-at ss (i - 1))
 abbrev pub begins-within : Span → List Span → ℕ → ℕ → Bool
 begins-within s ss n i = ltb i n && ltb (start-at ss i) (end-of s)
 
--- the two neighbours of a place
+-- a range that is not empty meets one of the two neighbours of its place
 abbrev pub near : Span → List Span → ℕ → ℕ → Bool
-near s ss n i = reaches (s .start) ss i || begins-within s ss n i
+near s ss n i = ltb 0 (s .size) && (reaches (s .start) ss i || begins-within s ss n i)
 
 -- the ranges `after` are those of `before` and one more: a range shares a byte with one of them exactly when it does with that one or with one of `before`
 abbrev pub Adds : List Span → Span → List Span → Type 0

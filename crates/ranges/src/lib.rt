@@ -73,37 +73,16 @@ impl Ranges {
     pub fn meets(&self, span: Span) -> bool
         ensures { λ r. ⌜ r ≡ meets span (vec-items (now (self .entry) .spans)) ⌝ }
     {
-        if span.size == 0 {
-            self.meets_nothing(span)
-        } else {
-            self.meets_some(span)
-        }
-    }
-
-    // An empty range shares no byte.
-    fn meets_nothing(&self, span: Span) -> bool
-        requires { ⌜ span .size ≡ 0 ⌝ }
-        ensures { λ r. ⌜ r ≡ meets span (vec-items (now (self .entry) .spans)) ⌝ }
-    {
-        false
-    }
-
-    // Another can share one with the range before its place or with the one at it, and with no other.
-    fn meets_some(&self, span: Span) -> bool
-        requires { ⌜ 0 < span .size ⌝ }
-        ensures { λ r. ⌜ r ≡ meets span (vec-items (now (self .entry) .spans)) ⌝ }
-    {
         let i = self.place_of(span.start);
         self.is_near(span, i)
     }
 
-    // Whether the range before the `i`-th, or the `i`-th itself, shares a byte with one whose place is there.
+    // Whether the range before the `i`-th, or the `i`-th itself, shares a byte with one whose place is there. An empty one shares none.
     fn is_near(&self, span: Span, i: usize) -> bool
-        requires some { ⌜ 0 < span .size ⌝ }
-        requires within { ⌜ i ≤ vec-len (now self .spans) ⌝ }
+        requires { ⌜ i ≤ vec-len (now self .spans) ⌝ }
         ensures { λ r. ⌜ r ≡ near span (vec-items (now (self .entry) .spans)) (vec-len (now (self .entry) .spans)) i ⌝ }
     {
-        self.reaches(span.start, i) || self.begins_within(span, i)
+        span.size > 0 && (self.reaches(span.start, i) || self.begins_within(span, i))
     }
 
     // Whether the range before the `i`-th goes on past `start`. Its end may not fit a number, the difference of the starts does.
