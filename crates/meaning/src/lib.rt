@@ -1,1 +1,17 @@
-//! What an accepted file is.
+//! What an accepted file is, and what a refusal tells. Each law stands on the contract of a function that does nothing, so that its proof is asked for.
+
+ghost use Rattle.model.specs.Laws.{Opened-means, Meant-opens};
+
+/// A file is accepted exactly when its bytes hold a section, and what is opened is that section, its lists in the order in which they are named.
+pub fn accepted_exactly_when_meant() -> u8
+    ensures { λ _. ⌜ Opened-means ⌝ }
+{
+    0
+}
+
+/// Bytes that hold a section are accepted, whatever the order in which its lists are told.
+pub fn meant_files_open() -> u8
+    ensures { λ _. ⌜ Meant-opens ⌝ }
+{
+    0
+}
