@@ -67,7 +67,7 @@ pub list-step : (n : ℕ) (b : List ℕ) (end count : ℕ) (ls : List NodeList) 
 unfolding list-from
 list-step n b end count ls before id field f fs ns = refl
 
-marked-passes : (b : List ℕ) (id number : ℕ) (f : Span) → Marked b id number f → 16 ≤ id
+pub marked-passes : (b : List ℕ) (id number : ℕ) (f : Span) → Marked b id number f → 16 ≤ id
     → (unmarked b f || not (eqb (sequence b f) number) || not (eqb (owner b f) id) || ltb id 16) ≡ false
 marked-passes b id number f m r =
     let x = m .first in
