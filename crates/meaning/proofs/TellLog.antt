@@ -28,17 +28,13 @@ use Rattle.model.specs.Breaks.{Misplaced, Placed, log-field, log-reference, Log
 use Rattle.meaning.proofs.Base.{pairs-push}
 use Rattle.meaning.proofs.Places.{place-tells, full-tells}
 use Rattle.meaning.proofs.Growth.{last-push, row-push, row-next, chain-next}
-use Rattle.meaning.proofs.ReadLog.{log-step, log-next-of, log-is, flat-push}
+use Rattle.meaning.proofs.ReadLog.{log-is, flat-push, closed-push}
 
 -- entries ----------------------------------------------------------------------------------------------------------
 
 -- the entries read so far, sentinels and all
 abbrev pub row : List (List Entry) → List Entry → List Entry
 row ts pending = flat (map closed ts) ++ pending
-
-closed-push : (ts : List (List Entry)) (t : List Entry) → flat (map closed (ts ++ (t ∷ []))) ≡ flat (map closed ts) ++ closed t
-closed-push [] t = append-nil (closed t)
-closed-push (u ∷ ts) t = ap (λ x. closed u ++ x) (closed-push ts t) ∙ sym (append-assoc (closed u) (flat (map closed ts)) (closed t))
 
 -- a row that grows by one entry, and then by more
 grows : (x y es : List Entry) (e : Entry) → y ≡ x ++ (e ∷ []) → y ++ es ≡ x ++ (e ∷ es)
