@@ -12,6 +12,7 @@ pub mod TellList
 pub mod TellQueue
 pub mod DataChecks
 pub mod OpensMeans
+pub mod BreakLog
 pub mod Frames
 pub mod Local
 pub mod Meant
