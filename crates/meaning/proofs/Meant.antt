@@ -1,4 +1,4 @@
--- The nodes of a fragment are read exactly where they stand.
+-- A node that is not refused is good, and the other way round.
 -- Assumes nothing.
 use Prim.Native.Nat.{ℕ, zero, suc, _+_}
 use mathlib.Core.Path.{_≡_, refl, ap, _∙_}
@@ -14,7 +14,6 @@ use Rattle.model.specs.Nodes.{Node, node-at, hands-over, bad-node}
 use Rattle.model.specs.OpenedLists.{counted, nodes-at}
 use Rattle.model.specs.Means.{Good, Nodes}
 
--- a node that is not refused is good, and the other way round
 pub passes : (b : List ℕ) (stop p : ℕ) → false ≡ hands-over (le 4 b p) stop p → false ≡ bad-node (le 4 b p) stop p → Good b stop p (node-at b p)
 unfolding hands-over bad-node
 passes b stop p h g = record {
@@ -34,28 +33,3 @@ good-stays b stop p n g = let e : n ≡ node-at b p = g .fields in grind (arith,
 pub good-passes : (b : List ℕ) (stop p : ℕ) (n : Node) → Good b stop p n → bad-node (le 4 b p) stop p ≡ false
 unfolding bad-node
 good-passes b stop p n g = let e : n ≡ node-at b p = g .fields in grind (arith, tells, g .named, g .top, g .base, g .parts, g .ends)
-
--- nodes that stand there are read
-pub nodes-read : (b : List ℕ) (id stop p : ℕ) (ns ks : List Node) (q : ℕ) → Nodes b stop p ks q → nodes-at (length ks) b id stop p ns ≡ done (counted (ns ++ ks) q)
-unfolding nodes-at
-nodes-read b id stop p ns [] q h = grind (arith, append-nil ns)
-nodes-read b id stop p ns (k ∷ ks) q h =
-    let e : k ≡ node-at b p = h .0 .fields in
-    let o = good-stays b stop p k (h .0) in
-    let g = good-passes b stop p k (h .0) in
-    let ih = nodes-read b id stop (p + k .size) (ns ++ (k ∷ [])) ks q (h .1) in
-    let a : (ns ++ (k ∷ [])) ++ ks ≡ ns ++ (k ∷ ks) = append-assoc ns (k ∷ []) ks in
-    grind (arith, tells)
-
--- and what was read stands there
-pub nodes-stand : (n : ℕ) (b : List ℕ) (id stop p : ℕ) (ns ms : List Node) (q : ℕ) → nodes-at n b id stop p ns ≡ done (counted ms q)
-    → (ks : List Node) × (ms ≡ ns ++ ks) × (length ks ≡ n) × Nodes b stop p ks q
-unfolding nodes-at
-nodes-stand zero b id stop p ns ms q e = ([], grind (arith, append-nil ns), refl, grind (arith, tells))
-nodes-stand (suc n) b id stop p ns ms q e =
-    let m = node-at b p in
-    let o : false ≡ hands-over (le 4 b p) stop p = grind (arith, tells) in
-    let g : false ≡ bad-node (le 4 b p) stop p = grind (arith, tells) in
-    let more : nodes-at n b id stop (p + m .size) (ns ++ (m ∷ [])) ≡ done (counted ms q) = grind (arith, tells) in
-    let (ks, u, l, w) = nodes-stand n b id stop (p + m .size) (ns ++ (m ∷ [])) ms q more in
-    (m ∷ ks, u ∙ append-assoc ns (m ∷ []) ks, ap suc l, (passes b stop p o g, w))
