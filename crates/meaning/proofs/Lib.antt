@@ -13,6 +13,7 @@ pub mod TellQueue
 pub mod DataChecks
 pub mod OpensMeans
 pub mod BreakLog
+pub mod BreakList
 pub mod Frames
 pub mod Local
 pub mod Meant

@@ -1,13 +1,16 @@
--- Reading a list, step by step: its first fragment, and a later one.
+-- Reading a list, step by step: what its checks say, its first fragment, and a later one.
 -- Assumes nothing.
-use Prim.Native.Nat.{ℕ, zero, suc, _-_}
+use Prim.Native.Nat.{ℕ, zero, suc, _-_, _≤_}
 use mathlib.Core.Path.{_≡_, refl, ap, _∙_}
-use mathlib.Core.Bool.{Bool, false, not, _||_}
-use mathlib.Core.List.{List, [], _∷_, _++_}
+use mathlib.Core.Logic.{inl, inr}
+use mathlib.Core.Bool.{Bool, true, false, not, _||_}
+use mathlib.Core.List.{List, [], _∷_, _++_, map}
 use native.Mathlib.Omega.{arith}
 use lib.Dec.{eqb, ltb}
 use lib.ListN.{length}
+use Rattle.std.specs.shelf.Lists.{Has}
 use Rattle.std.proofs.shelf.Lists.{append-nil}
+use Rattle.std.proofs.shelf.Tests.{eqb-true, eq-eqb, or-cases, or-left, or-right}
 use Rattle.std.proofs.shelf.Ways.{tells}
 use Rattle.model.specs.declared.types.Span.{Span}
 use Rattle.model.specs.Faults.{fault, Outcome, refused, unless, then}
@@ -16,11 +19,48 @@ use Rattle.model.specs.ListFragments.{owner, unmarked, sequence, nodes-from, no
 use Rattle.model.specs.Section.{NodeList}
 use Rattle.model.specs.OpenedLog.{outside}
 use Rattle.model.specs.OpenedLists.{nodes-at, taken, list-from, list-goes}
+use Rattle.model.specs.Means.{Marked}
+use Rattle.meaning.proofs.Members.{In, in-from-has, has-from-in}
 use Rattle.meaning.proofs.Places.{place-checks}
 
 -- a mark, the number in the list or the list ID is wrong, or the ID is under 16
 abbrev pub mislabelled : List ℕ → ℕ → ℕ → Span → Bool
 mislabelled b id number f = unmarked b f || not (eqb (sequence b f) number) || not (eqb (owner b f) id) || ltb id 16
+
+pub marked-passes : (b : List ℕ) (id number : ℕ) (f : Span) → Marked b id number f → 16 ≤ id → mislabelled b id number f ≡ false
+marked-passes b id number f m r =
+    let x = m .first in
+    let y = m .last in
+    let z = m .list in
+    let w = m .sequence-number in
+    grind (arith, tells)
+
+pub passes-marked : (b : List ℕ) (id number : ℕ) (f : Span) → mislabelled b id number f ≡ false → Marked b id number f × (16 ≤ id)
+passes-marked b id number f e =
+    (record { first = grind (arith, tells); last = grind (arith, tells); list = grind (arith, tells); sequence-number = grind (arith, tells) }, grind (arith, tells))
+
+-- an ID is taken where a list has it
+pub taken-has : (id : ℕ) (ls : List NodeList) → taken id ls ≡ true → Has (map (λ l. l .id) ls) id
+taken-has id ls e = has-from-in (map (λ (l : NodeList). l .id) ls) id (by ls e)
+  where
+    by : (ls : List NodeList) → taken id ls ≡ true → In id (map (λ l. l .id) ls)
+    by [] e = absurd (grind arith)
+    by (l ∷ ls) e = elim (or-cases (eqb (l .id) id) (taken id ls) e) [
+      | inl x ↦ inl (eqb-true (l .id) id x)
+      | inr x ↦ inr (by ls x)
+    ]
+
+pub has-taken : (id : ℕ) (ls : List NodeList) → Has (map (λ l. l .id) ls) id → taken id ls ≡ true
+has-taken id ls x = by ls (in-from-has (map (λ (l : NodeList). l .id) ls) id x)
+  where
+    by : (ls : List NodeList) → In id (map (λ l. l .id) ls) → taken id ls ≡ true
+    by [] i = absurd i
+    by (l ∷ ls) (inl e) = or-left (eqb (l .id) id) (taken id ls) (eq-eqb (l .id) id e)
+    by (l ∷ ls) (inr i) = or-right (eqb (l .id) id) (taken id ls) (by ls i)
+
+-- from the place q of the fragment g on, behind the fragments fs, with n fragments more
+abbrev pub from-node : List ℕ → ℕ → ℕ → List NodeList → List Span → ℕ → ℕ → List Span → Span → List Node → ℕ → Outcome NodeList
+from-node b end count ls before id n fs g ns q = then (nodes-at (count - length ns) b id (nodes-to g) q ns) (list-goes (list-from n b end count ls before id) b id g fs)
 
 module _ (b : List ℕ) (end count : ℕ) (ls : List NodeList) (before : List Span) (id field : ℕ) (f : Span) where
   -- the nodes of the fragment f behind the fragments fs, and what follows them

@@ -20,7 +20,7 @@ use Rattle.model.specs.Breaks.Misplaced.{outside as is-outside, full, overlap}
 use Rattle.meaning.proofs.Base.{inside-passes, inside, apart-overlaps, overlaps-apart}
 
 -- a test that is true where its rule is broken
-by-rule : (t : Bool) (P : Type 0) → (t ≡ false → P) → (P → ⊥) → t ≡ true
+pub by-rule : (t : Bool) (P : Type 0) → (t ≡ false → P) → (P → ⊥) → t ≡ true
 by-rule t P k n = elim (cases-bool t) [
   | inl e ↦ e
   | inr e ↦ absurd (n (k e))

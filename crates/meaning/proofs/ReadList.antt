@@ -25,7 +25,7 @@ use Rattle.model.specs.OpenedLists.{counted, uncounted, nodes-at, taken, list-f
 use Rattle.model.specs.Means.{Apart, Pairwise, Inside, Nodes, Spread, within, across, Marked, Numbered, Stands}
 use Rattle.meaning.proofs.Meant.{good-stays, good-passes}
 use Rattle.meaning.proofs.Base.{Clean, unless-clean, inside-passes, apart-overlaps, apart-before}
-use Rattle.meaning.proofs.ListSteps.{mislabelled, nodes-then}
+use Rattle.meaning.proofs.ListSteps.{nodes-then, from-node, marked-passes}
 
 -- nodes ------------------------------------------------------------------------------------------------------------
 
@@ -68,14 +68,6 @@ spread-some b f (g ∷ gs) ms q (across ns ks p w h e r a) l =
 
 -- fragments --------------------------------------------------------------------------------------------------------
 
-pub marked-passes : (b : List ℕ) (id number : ℕ) (f : Span) → Marked b id number f → 16 ≤ id → mislabelled b id number f ≡ false
-marked-passes b id number f m r =
-    let x = m .first in
-    let y = m .last in
-    let z = m .list in
-    let w = m .sequence-number in
-    grind (arith, tells)
-
 abbrev pub list-is : ℕ → List Span → List Node → ℕ → NodeList
 list-is id fs ns q = record { id = id; fragments = fs; nodes = ns; free = q }
 
@@ -101,14 +93,10 @@ module _ (b : List ℕ) (end count : ℕ) (ls : List NodeList) (before : List Sp
       ) in
       unless-clean (list-checks b end count ls before id field f fs) _ clean
 
-  -- from the place q of the fragment g on, with n fragments more
-  abbrev pub from-node : ℕ → List Span → Span → List Node → ℕ → Outcome NodeList
-  from-node n fs g ns q = then (nodes-at (count - length ns) b id (nodes-to g) q ns) (list-goes (list-from n b end count ls before id) b id g fs)
-
   pub list-walks : (n m field : ℕ) (f : Span) (gs fs : List Span) (ns ms : List Node) (q : ℕ)
       → Spread b (f ∷ gs) ms q → All (Inside 36 end) (f ∷ gs) → Numbered b id (length fs) (f ∷ gs)
       → Pairwise Apart (header-span ∷ ((before ++ fs) ++ (f ∷ gs))) → Far count (length ns + length ms) (last-of f gs) q → n ≡ length (f ∷ gs) + m
-      → (front : List Span) × (front ++ (last-of f gs ∷ []) ≡ fs ++ (f ∷ gs)) × (list-from n b end count ls before id field f fs ns ≡ from-node m front (last-of f gs) (ns ++ ms) q)
+      → (front : List Span) × (front ++ (last-of f gs ∷ []) ≡ fs ++ (f ∷ gs)) × (list-from n b end count ls before id field f fs ns ≡ from-node b end count ls before id m front (last-of f gs) (ns ++ ms) q)
   list-walks zero m field f gs fs ns ms q s i k a c l = absurd (omega arith)
   list-walks (suc n) m field f [] fs ns ms q (within w) i k a c l =
       let x : n ≡ m = omega arith in
@@ -119,7 +107,7 @@ module _ (b : List ℕ) (end count : ℕ) (ls : List NodeList) (before : List Sp
       list-enters n field f fs [] ns (i .0) (k .0) a
       ∙ ap (λ z. then z (list-goes (list-from n b end count ls before id) b id f fs)) (nodes-through (count - length ns) b id (nodes-to f) (nodes-from f) ns ms q w (omega arith)
       ∙ ap (λ z. nodes-at z b id (nodes-to f) q (ns ++ ms)) v)
-      ∙ ap (λ z. from-node z fs f (ns ++ ms) q) x)
+      ∙ ap (λ z. from-node b end count ls before id z fs f (ns ++ ms) q) x)
     where
       far : (length ns + length ms < count) ⊎ ((length ns + length ms ≡ count) × (nodes-from f < q)) → length ns + length ms ≤ count
       far (inl x) = omega arith
@@ -137,7 +125,7 @@ module _ (b : List ℕ) (end count : ℕ) (ls : List NodeList) (before : List Sp
       ∙ ap (λ z. then z (list-goes (list-from n b end count ls before id) b id f fs)) (nodes-through (count - length ns) b id (nodes-to f) (nodes-from f) ns ks p w (omega arith)
       ∙ nodes-handed (count - length ns - length ks) b id (nodes-to f) p (ns ++ ks) (omega arith) h)
       ∙ ap (λ (x : Span). list-from n b end count ls before id (nodes-to f) x (fs ++ (f ∷ [])) (ns ++ ks)) (sym e) ∙ walk
-      ∙ ap (λ z. from-node m front (last-of g gs) z q) (append-assoc ns ks js ∙ ap (λ x. ns ++ x) (sym split)))
+      ∙ ap (λ z. from-node b end count ls before id m front (last-of g gs) z q) (append-assoc ns ks js ∙ ap (λ x. ns ++ x) (sym split)))
     where
       goes-on : (ks js : List Node) → Far count (length ns + length ms) (last-of g gs) q → Spread b (g ∷ gs) js q → length ms ≡ length ks + length js
           → (length ns + length ks < count) × Far count (length (ns ++ ks) + length js) (last-of g gs) q

@@ -11,7 +11,7 @@ use lib.ListN.{length}
 use Rattle.std.specs.shelf.Lists.{Has}
 use Rattle.std.proofs.shelf.Lists.{append-assoc, append-nil, length-append, length-push}
 use Rattle.std.proofs.shelf.Ways.{tells}
-use Rattle.std.proofs.shelf.Tests.{cond-both, both-ways, eqb-true, eqb-false, eq-eqb, or-cases, or-left, or-right}
+use Rattle.std.proofs.shelf.Tests.{cond-both, both-ways, eqb-true, eqb-false}
 use Rattle.model.specs.declared.types.Span.{Span}
 use Rattle.model.specs.declared.types.Fault.{Fault}
 use Rattle.model.specs.declared.types.Header.{Header}
@@ -28,35 +28,11 @@ use Rattle.model.specs.Breaks.{Misplaced, Placed, First-breaks, Half-read, Rest
 use Rattle.model.specs.Breaks.First-breaks.{place as first-place, unmarked as first-unmarked, twice, unlisted}
 use Rattle.model.specs.Breaks.Rest-breaks.{node, place, unmarked as rest-unmarked}
 use Rattle.meaning.proofs.Base.{pairs-push}
-use Rattle.meaning.proofs.Members.{In, in-from-has, has-from-in}
 use Rattle.meaning.proofs.Meant.{passes}
 use Rattle.meaning.proofs.Places.{place-tells, full-tells}
 use Rattle.meaning.proofs.Growth.{last-push, part-push, part-on}
-use Rattle.meaning.proofs.ListSteps.{mislabelled, nodes-then, first-none, first-step, later-none, later-step}
-use Rattle.meaning.proofs.ReadList.{list-is, marked-passes}
-
-passes-marked : (b : List ℕ) (id number : ℕ) (f : Span) → mislabelled b id number f ≡ false → Marked b id number f × (16 ≤ id)
-passes-marked b id number f e =
-    (record { first = grind (arith, tells); last = grind (arith, tells); list = grind (arith, tells); sequence-number = grind (arith, tells) }, grind (arith, tells))
-
--- an ID is taken where a list has it
-pub taken-has : (id : ℕ) (ls : List NodeList) → taken id ls ≡ true → Has (map (λ l. l .id) ls) id
-taken-has id ls e = has-from-in (map (λ (l : NodeList). l .id) ls) id (by ls e)
-  where
-    by : (ls : List NodeList) → taken id ls ≡ true → In id (map (λ l. l .id) ls)
-    by [] e = absurd (grind arith)
-    by (l ∷ ls) e = elim (or-cases (eqb (l .id) id) (taken id ls) e) [
-      | inl x ↦ inl (eqb-true (l .id) id x)
-      | inr x ↦ inr (by ls x)
-    ]
-
-pub has-taken : (id : ℕ) (ls : List NodeList) → Has (map (λ l. l .id) ls) id → taken id ls ≡ true
-has-taken id ls x = by ls (in-from-has (map (λ (l : NodeList). l .id) ls) id x)
-  where
-    by : (ls : List NodeList) → In id (map (λ l. l .id) ls) → taken id ls ≡ true
-    by [] i = absurd i
-    by (l ∷ ls) (inl e) = or-left (eqb (l .id) id) (taken id ls) (eq-eqb (l .id) id e)
-    by (l ∷ ls) (inr i) = or-right (eqb (l .id) id) (taken id ls) (by ls i)
+use Rattle.meaning.proofs.ListSteps.{mislabelled, nodes-then, marked-passes, passes-marked, taken-has, has-taken, first-none, first-step, later-none, later-step}
+use Rattle.meaning.proofs.ReadList.{list-is}
 
 module _ (b : List ℕ) (h : Header) (log : Log) (ls : List NodeList) (first : Span) where
   abbrev before : List Span
