@@ -1,6 +1,6 @@
 -- What bytes mean, they open as.
 -- Assumes nothing.
-use Prim.Native.Nat.{ℕ, _≤_}
+use Prim.Native.Nat.{ℕ, _-_, _≤_}
 use mathlib.Core.Path.{_≡_, refl, sym, ap, _∙_}
 use mathlib.Core.Logic.{inl, inr}
 use mathlib.Core.Bool.{true, false, not, _||_}
@@ -9,7 +9,7 @@ use native.Mathlib.Omega.{arith}
 use lib.Dec.{eqb, ltb}
 use lib.ListN.{length}
 use Rattle.std.specs.shelf.Lists.{All, Has}
-use Rattle.std.proofs.shelf.Lists.{append-nil}
+use Rattle.std.proofs.shelf.Lists.{append-nil, drop-all}
 use Rattle.std.proofs.shelf.Ways.{tells}
 use Rattle.std.proofs.shelf.Tests.{and-from}
 use Rattle.std.proofs.shelf.Elements.{all-append}
@@ -20,16 +20,17 @@ use Rattle.model.specs.Faults.{done, Check, unless, then}
 use Rattle.model.specs.References.{end-of}
 use Rattle.model.specs.Headers.{header-span, most, file-type, file-format, header-at}
 use Rattle.model.specs.Nodes.{Node, referring}
-use Rattle.model.specs.Section.{Log, NodeList, Section, flat, list-fragments}
+use Rattle.model.specs.Section.{Log, NodeList, Section, flat, list-fragments, first-of}
 use Rattle.model.specs.OpenedLog.{log-from, reading}
 use Rattle.model.specs.OpenedLists.{named-first, lists-from}
 use Rattle.model.specs.Opened.{header-checks, data-checks, opened, all-data, last-part, part-lists, part-log}
-use Rattle.model.specs.Means.{Apart, Headed, data-spans, Means, In-order}
+use Rattle.model.specs.Means.{Apart, Headed, named-in, data-spans, Means, In-order}
+use Rattle.model.specs.Breaks.{Walked}
 use Rattle.model.specs.Laws.{Meant-opens}
 use Rattle.meaning.proofs.Base.{Clean, unless-clean, all-front, apart-overlaps, Data-fits, references}
 use Rattle.meaning.proofs.Members.{In, has-from-in, in-map, in-flat, in-unflat, all-in, all-from-in}
 use Rattle.meaning.proofs.ReadLog.{logs-read}
-use Rattle.meaning.proofs.ReadQueue.{Stock, Right, lists-read, lists-read-in-order}
+use Rattle.meaning.proofs.ReadQueue.{Stock, Right, lists-read, lists-end, walked-read}
 
 -- header -----------------------------------------------------------------------------------------------------------
 
@@ -165,13 +166,26 @@ meant-opens b s m =
       },
     )
 
+pub means-walked : (b : List ℕ) (s : Section) → Means b s → In-order (s .header) (s .lists) → Walked b (s .header) (s .log) (s .lists) []
+means-walked b s m i =
+    let once = m .once in
+    record {
+      lists = m .lists;
+      reached = m .reached;
+      order = sym i ∙ sym (append-nil (map first-of (s .lists)));
+      fields = sym (drop-all (length (s .lists)) (named-in (s .header) (s .lists)) (omega arith));
+      ids-differ = m .ids-differ;
+      apart = m .fragments-apart;
+      few-lists = m .few-lists;
+      few = m .few-fragments;
+    }
+
 -- and as s itself, if its lists stand in that order
 pub means-opens-in-order : (b : List ℕ) (s : Section) → Means b s → In-order (s .header) (s .lists) → opened b ≡ done s
 means-opens-in-order b s m i = opens-back b s (record {
   checks = headed-passes b (s .header) (m .header);
   header = sym (m .header .fields);
   log = logs-read b (s .header) (s .log) (m .log) (m .header .counts);
-  lists = lists-read-in-order 1024 b (s .header) (s .log) (s .lists) [] (s .lists) (named-first (s .header)) (means-right b s m) (means-stock b s m)
-      (ap (λ w. map (λ q. q .1) w) (append-nil (named-first (s .header)))) i (m .few-lists);
+  lists = walked-read b (s .header) (s .log) (s .lists) [] (means-walked b s m i) ∙ lists-end (1024 - length (s .lists)) b (s .header) (s .log) (s .lists);
   content = data-clean (s .header) (s .log) (s .lists) (s .lists) (λ l i. i) (m .data-inside) (m .data-apart);
 })

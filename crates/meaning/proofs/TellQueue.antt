@@ -25,7 +25,7 @@ use Rattle.model.specs.Breaks.First-breaks.{outside as first-outside, full as f
 use Rattle.meaning.proofs.Base.{pairs-join, inside}
 use Rattle.meaning.proofs.Members.{In, has-from-in, in-from-has, in-left, in-right, in-cases, in-map, in-unflat, all-in, all-from-in, flat-append}
 use Rattle.meaning.proofs.Places.{not-inside}
-use Rattle.meaning.proofs.ReadQueue.{spans, Order, order-more, lists-step, lists-end}
+use Rattle.meaning.proofs.ReadQueue.{spans, order-more, fields-more}
 use Rattle.meaning.proofs.TellList.{Fits, Named-breaks, List-tells, list-told}
 
 -- what is named is reached
@@ -39,24 +39,6 @@ named-reached h ls q a i = in-cases (named-first h) (flat (map named-by ls)) q (
 reached-more : (h : Header) (ls ms : List NodeList) (r : Span) → Reached h ls r → Reached h (ls ++ ms) r
 reached-more h ls ms r (by-header x) = by-header x
 reached-more h ls ms r (by-node {l = l} x y z) = by-node {l = l} (has-from-in (ls ++ ms) l (in-left ls ms l (in-from-has ls l x))) (reached-more h ls ms (first-of l) y) z
-
--- the queue is what is named behind the lists read
-named-push : (h : Header) (ls : List NodeList) (l : NodeList) → named-in h (ls ++ (l ∷ [])) ≡ named-in h ls ++ named-by l
-named-push h ls l =
-    ap (λ w. named-first h ++ w) (flat-append named-by ls (l ∷ []) ∙ ap (λ w. flat (map named-by ls) ++ w) (append-nil (named-by l)))
-    ∙ sym (append-assoc (named-first h) (flat (map named-by ls)) (named-by l))
-
-behind-more : {X : Type 0} (n : ℕ) (xs ys : List X) (q : X) (qs : List X) → q ∷ qs ≡ drop n xs → qs ++ ys ≡ drop (n + 1) (xs ++ ys)
-behind-more n xs ys q qs e =
-    let x : suc (length qs) ≡ length (drop n xs) = ap length e in
-    let y = length-drop n xs in
-    ap (λ w. w ++ ys) (ap (drop 1) e ∙ drop-drop 1 n xs) ∙ sym (drop-append-le (n + 1) xs ys (omega arith))
-
-pub fields-more : (h : Header) (ls : List NodeList) (q : Named) (qs : List Named) (l : NodeList) → q ∷ qs ≡ drop (length ls) (named-in h ls)
-    → qs ++ named-by l ≡ drop (length (ls ++ (l ∷ []))) (named-in h (ls ++ (l ∷ [])))
-fields-more h ls q qs l e =
-    let n : length (ls ++ (l ∷ [])) ≡ length ls + 1 = length-push ls l in
-    behind-more (length ls) (named-in h ls) (named-by l) q qs e ∙ sym (ap (λ z. drop z (named-in h (ls ++ (l ∷ [])))) n ∙ ap (drop (length ls + 1)) (named-push h ls l))
 
 in-drop : {X : Type 0} (n : ℕ) (xs : List X) (q : X) (qs : List X) → q ∷ qs ≡ drop n xs → In q xs
 in-drop n xs q qs e = subst (λ w. In q w) (take-append-drop n xs) (in-right (take n xs) (drop n xs) q (subst (λ w. In q w) e (inl refl)))
