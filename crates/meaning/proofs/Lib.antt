@@ -14,6 +14,7 @@ pub mod DataChecks
 pub mod OpensMeans
 pub mod BreakLog
 pub mod BreakList
+pub mod RefusedBreaks
 pub mod Frames
 pub mod Local
 pub mod Meant

@@ -122,8 +122,8 @@ opened-tells b =
 pub opens-means : (b : List ℕ) (s : Section) → opened b ≡ done s → Means b s × In-order (s .header) (s .lists)
 opens-means b s e = subst (Tells b) e (opened-tells b)
 
-pub refused-breaks-rule : (b : List ℕ) (f : Fault) → opened b ≡ refused f → Breaks b f
-refused-breaks-rule b f e = subst (Tells b) e (opened-tells b)
+pub refusal-told : (b : List ℕ) (f : Fault) → opened b ≡ refused f → Breaks b f
+refusal-told b f e = subst (Tells b) e (opened-tells b)
 
 pub opened-means : Opened-means
 opened-means b s = (opens-means b s, λ m. means-opens-in-order b s (m .0) (m .1))
