@@ -13,7 +13,7 @@ use Rattle.std.proofs.shelf.Tests.{cases-bool, or-from, or-parts}
 use Rattle.std.proofs.shelf.Elements.{all-append, all-weaker}
 use Rattle.model.specs.declared.types.Span.{Span}
 use Rattle.model.specs.declared.types.Fault.{Fault}
-use Rattle.model.specs.Faults.{Outcome, done, refused, Check, unless, then}
+use Rattle.model.specs.Faults.{Outcome, done, refused, Check, unless}
 use Rattle.model.specs.References.{share, meets, end-of}
 use Rattle.model.specs.Headers.{header-span}
 use Rattle.model.specs.OpenedLog.{outside, overlaps}

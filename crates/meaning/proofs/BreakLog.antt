@@ -1,7 +1,7 @@
 -- A log that breaks a rule is refused, with what the first broken rule tells.
 -- Assumes nothing.
 use Prim.Native.Nat.{ℕ, zero, suc, _-_, _≤_, _<_}
-use mathlib.Core.Path.{_≡_, refl, sym, ap, _∙_, subst}
+use mathlib.Core.Path.{_≡_, refl, sym, ap, _∙_}
 use mathlib.Core.Logic.{_≢_}
 use mathlib.Core.List.{List, [], _∷_, _++_}
 use native.Mathlib.Omega.{arith}
@@ -12,13 +12,13 @@ use Rattle.model.specs.declared.types.Span.{Span}
 use Rattle.model.specs.declared.types.Entry.{Entry}
 use Rattle.model.specs.declared.types.Fault.{Fault}
 use Rattle.model.specs.declared.types.Header.{Header}
-use Rattle.model.specs.Faults.{fault, Outcome, refused, then}
+use Rattle.model.specs.Faults.{fault, refused, then}
 use Rattle.model.specs.References.{span, span-at}
 use Rattle.model.specs.LogFragments.{entry-at, sentinel, entries-in, entry-place, log-next}
-use Rattle.model.specs.Section.{Log, flat, last-of, latest}
-use Rattle.model.specs.OpenedLog.{LogPart, log-entries, log-from, Reading, reading, log-goes}
+use Rattle.model.specs.Section.{flat, last-of, latest}
+use Rattle.model.specs.OpenedLog.{log-entries, log-from, Reading, reading, log-goes}
 use Rattle.model.specs.Means.{Log-part}
-use Rattle.model.specs.Breaks.{Misplaced, log-field, log-reference, Log-breaks, fragment, sum, backward}
+use Rattle.model.specs.Breaks.{Misplaced, Log-breaks, fragment, sum, backward}
 use Rattle.meaning.proofs.Growth.{last-push}
 use Rattle.meaning.proofs.Places.{misplaced-refused, full-refused}
 use Rattle.meaning.proofs.ReadLog.{log-step, log-part-read, entries-over}

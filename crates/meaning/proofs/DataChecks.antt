@@ -3,10 +3,9 @@
 use Prim.Native.Nat.{ℕ, _≤_}
 use mathlib.Core.Path.{_≡_, refl, sym, ap, _∙_, subst}
 use mathlib.Core.List.{List, [], _∷_, _++_, map}
-use native.Mathlib.Omega.{arith}
 use lib.Dec.{ltb}
 use Rattle.std.specs.shelf.Lists.{All}
-use Rattle.std.proofs.shelf.Lists.{append-assoc, map-append}
+use Rattle.std.proofs.shelf.Lists.{map-append}
 use Rattle.std.proofs.shelf.Lanes.{map-map}
 use Rattle.std.proofs.shelf.Tests.{cond-both, cond-true, cond-false, ltb-true, ltb-false, lt-ltb, le-ltb}
 use Rattle.std.proofs.shelf.Elements.{all-map, all-weaker}

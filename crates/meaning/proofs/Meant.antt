@@ -1,18 +1,14 @@
 -- A node that is not refused is good, and the other way round.
 -- Assumes nothing.
-use Prim.Native.Nat.{ℕ, zero, suc, _+_}
-use mathlib.Core.Path.{_≡_, refl, ap, _∙_}
+use Prim.Native.Nat.{ℕ}
+use mathlib.Core.Path.{_≡_, refl}
 use mathlib.Core.Bool.{false}
-use mathlib.Core.List.{List, [], _∷_, _++_}
+use mathlib.Core.List.{List}
 use native.Mathlib.Omega.{arith}
-use lib.ListN.{length}
 use Rattle.std.proofs.shelf.Ways.{tells}
-use Rattle.std.proofs.shelf.Lists.{append-assoc, append-nil}
 use Rattle.model.specs.Bytes.{le}
-use Rattle.model.specs.Faults.{done}
 use Rattle.model.specs.Nodes.{Node, node-at, hands-over, bad-node}
-use Rattle.model.specs.OpenedLists.{counted, nodes-at}
-use Rattle.model.specs.Means.{Good, Nodes}
+use Rattle.model.specs.Means.{Good}
 
 pub passes : (b : List ℕ) (stop p : ℕ) → false ≡ hands-over (le 4 b p) stop p → false ≡ bad-node (le 4 b p) stop p → Good b stop p (node-at b p)
 unfolding hands-over bad-node

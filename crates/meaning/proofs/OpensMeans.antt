@@ -10,7 +10,6 @@ use lib.ListN.{length}
 use Rattle.std.specs.shelf.Lists.{All, Has}
 use Rattle.std.proofs.shelf.Lists.{append-nil, length-map}
 use Rattle.std.proofs.shelf.Ways.{tells}
-use Rattle.model.specs.declared.types.Span.{Span}
 use Rattle.model.specs.declared.types.Fault.{Fault}
 use Rattle.model.specs.declared.types.Header.{Header}
 use Rattle.model.specs.Bytes.{piece, same-row}

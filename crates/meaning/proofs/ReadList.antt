@@ -15,8 +15,7 @@ use Rattle.std.proofs.shelf.Tests.{and-right}
 use Rattle.model.specs.declared.types.Span.{Span}
 use Rattle.model.specs.declared.types.Header.{Header}
 use Rattle.model.specs.Bytes.{le}
-use Rattle.model.specs.Faults.{Outcome, done, unless, then}
-use Rattle.model.specs.References.{span-at}
+use Rattle.model.specs.Faults.{done, then}
 use Rattle.model.specs.Headers.{header-span}
 use Rattle.model.specs.Nodes.{Node, node-at, hands-over}
 use Rattle.model.specs.ListFragments.{nodes-from, nodes-to}

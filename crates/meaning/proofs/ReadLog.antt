@@ -21,7 +21,7 @@ use Rattle.model.specs.References.{span, span-at}
 use Rattle.model.specs.Headers.{header-span}
 use Rattle.model.specs.LogFragments.{entry-at, sentinel, entries-in, entry-place, log-next}
 use Rattle.model.specs.Section.{Log, flat, last-of, latest}
-use Rattle.model.specs.OpenedLog.{Reading, LogPart, finished, unfinished, log-entries, log-from, reading, log-goes, log-checks}
+use Rattle.model.specs.OpenedLog.{Reading, finished, unfinished, log-entries, log-from, reading, log-goes, log-checks}
 use Rattle.model.specs.Means.{Apart, Pairwise, Inside, Chain, entries-of, log-row, closed, Counts-lists, Rising, Log-part, Logs}
 use Rattle.meaning.proofs.Base.{Clean, unless-clean, all-front, inside-passes, apart-overlaps, apart-before}
 use Rattle.meaning.proofs.Growth.{row-more}

@@ -10,12 +10,11 @@ use Rattle.model.specs.declared.types.Span.{Span}
 use Rattle.model.specs.declared.types.Fault.{Fault}
 use Rattle.model.specs.declared.types.Header.{Header}
 use Rattle.model.specs.Faults.{refused, unless, then}
-use Rattle.model.specs.References.{span-at}
 use Rattle.model.specs.Headers.{header-at}
 use Rattle.model.specs.ListFragments.{owner}
 use Rattle.model.specs.Section.{Log, NodeList}
-use Rattle.model.specs.OpenedLog.{outside, log-from, reading}
-use Rattle.model.specs.OpenedLists.{Named, named-by, named-first, named-list, lists-from}
+use Rattle.model.specs.OpenedLog.{outside}
+use Rattle.model.specs.OpenedLists.{Named, named-by, named-list, lists-from}
 use Rattle.model.specs.Opened.{header-checks, opened, last-part, part-lists, part-log}
 use Rattle.model.specs.Means.{Headed, Logs}
 use Rattle.model.specs.Breaks.{Walked, First-breaks, Rest-breaks, Breaks, in-header, in-log, in-first, in-list, in-data}

@@ -1,30 +1,29 @@
 -- What reading a list tells: the list stands, or this is the first rule that it breaks.
 -- Assumes nothing.
 use Prim.Native.Nat.{ℕ, zero, suc, _+_, _-_, _<_, _≤_}
-use mathlib.Core.Path.{_≡_, refl, sym, ap, _∙_, subst}
+use mathlib.Core.Path.{_≡_, refl, sym, subst}
 use mathlib.Core.Logic.{_⊎_, inl, inr}
-use mathlib.Core.Bool.{true, false, not, _&&_, _||_}
+use mathlib.Core.Bool.{true}
 use mathlib.Core.List.{List, [], _∷_, _++_, map}
 use native.Mathlib.Omega.{arith}
-use lib.Dec.{eqb, ltb}
+use lib.Dec.{eqb}
 use lib.ListN.{length}
 use Rattle.std.specs.shelf.Lists.{Has}
-use Rattle.std.proofs.shelf.Lists.{append-assoc, append-nil, length-append, length-push}
-use Rattle.std.proofs.shelf.Ways.{tells}
+use Rattle.std.proofs.shelf.Lists.{append-assoc, length-append, length-push}
 use Rattle.std.proofs.shelf.Tests.{cond-both, both-ways, eqb-true, eqb-false}
 use Rattle.model.specs.declared.types.Span.{Span}
 use Rattle.model.specs.declared.types.Fault.{Fault}
 use Rattle.model.specs.declared.types.Header.{Header}
 use Rattle.model.specs.Bytes.{le}
-use Rattle.model.specs.Faults.{fault, Outcome, done, refused, unless, then}
+use Rattle.model.specs.Faults.{Outcome, done, refused, then}
 use Rattle.model.specs.References.{span-at}
 use Rattle.model.specs.Headers.{header-span}
 use Rattle.model.specs.Nodes.{Node, node-at, hands-over, bad-node}
-use Rattle.model.specs.ListFragments.{owner, unmarked, sequence, nodes-from, nodes-to}
+use Rattle.model.specs.ListFragments.{owner, nodes-from, nodes-to}
 use Rattle.model.specs.Section.{Log, NodeList, last-of, count-in, list-fragments, first-of}
-use Rattle.model.specs.OpenedLists.{NodePart, counted, uncounted, nodes-at, taken, list-from, list-goes, list-checks}
-use Rattle.model.specs.Means.{Apart, Pairwise, Inside, within, Marked, List-part, Stands}
-use Rattle.model.specs.Breaks.{Misplaced, Placed, First-breaks, Half-read, Rest-breaks}
+use Rattle.model.specs.OpenedLists.{NodePart, counted, uncounted, nodes-at, taken, list-from, list-goes}
+use Rattle.model.specs.Means.{Apart, Pairwise, within, Marked, List-part, Stands}
+use Rattle.model.specs.Breaks.{First-breaks, Half-read, Rest-breaks}
 use Rattle.model.specs.Breaks.First-breaks.{place as first-place, unmarked as first-unmarked, twice, unlisted}
 use Rattle.model.specs.Breaks.Rest-breaks.{node, place, unmarked as rest-unmarked}
 use Rattle.meaning.proofs.Base.{pairs-push}

@@ -17,13 +17,13 @@ use Rattle.model.specs.declared.types.Span.{Span}
 use Rattle.model.specs.declared.types.Entry.{Entry}
 use Rattle.model.specs.declared.types.Fault.{Fault}
 use Rattle.model.specs.declared.types.Header.{Header}
-use Rattle.model.specs.Faults.{fault, Outcome, done, refused, unless, then}
+use Rattle.model.specs.Faults.{Outcome, done, refused, then}
 use Rattle.model.specs.References.{span, span-at}
 use Rattle.model.specs.Headers.{header-span}
 use Rattle.model.specs.LogFragments.{entry-at, sentinel, entries-in, entry-place, log-next}
 use Rattle.model.specs.Section.{Log, flat, last-of, latest}
 use Rattle.model.specs.OpenedLog.{Reading, LogPart, finished, unfinished, log-entries, log-from, reading, log-goes}
-use Rattle.model.specs.Means.{Apart, Pairwise, Inside, Chain, log-row, closed, Counts-lists, Rising, Log-part, Logs}
+use Rattle.model.specs.Means.{Inside, log-row, closed, Counts-lists, Rising, Log-part, Logs}
 use Rattle.model.specs.Breaks.{Misplaced, Placed, log-field, log-reference, Log-breaks, fragment, sum, backward}
 use Rattle.meaning.proofs.Base.{pairs-push}
 use Rattle.meaning.proofs.Places.{place-tells, full-tells}
@@ -35,10 +35,6 @@ use Rattle.meaning.proofs.ReadLog.{log-is, flat-push, closed-push}
 -- the entries read so far, sentinels and all
 abbrev pub row : List (List Entry) → List Entry → List Entry
 row ts pending = flat (map closed ts) ++ pending
-
--- a row that grows by one entry, and then by more
-grows : (x y es : List Entry) (e : Entry) → y ≡ x ++ (e ∷ []) → y ++ es ≡ x ++ (e ∷ es)
-grows x y es e h = ap (λ z. z ++ es) h ∙ append-assoc x (e ∷ []) es
 
 row-sentinel : (ts : List (List Entry)) (pending : List Entry) → row (ts ++ (pending ∷ [])) [] ≡ row ts pending ++ (sentinel pending ∷ [])
 row-sentinel ts pending =
