@@ -20,7 +20,8 @@ use Rattle.model.specs.Committing.{header-write}
 use Rattle.meaning.proofs.Frames.{le-in, piece-in}
 use Rattle.meaning.proofs.Local.{Agree, spread-local, span-local}
 use Rattle.commits.specs.Body.{Right, Body}
-use Rattle.commits.proofs.Rows.{all-both, all-flat}
+use Rattle.meaning.proofs.Members.{all-flat}
+use Rattle.commits.proofs.Rows.{all-both}
 use Rattle.commits.proofs.PartKept.{marked-same, spread-ends, inside-more}
 use Rattle.commits.proofs.LogAdded.{Log-agree, row-local, chain-local, next-inside}
 use Rattle.commits.proofs.Around.{Kept}

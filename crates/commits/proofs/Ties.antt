@@ -15,9 +15,9 @@ use Rattle.model.specs.Section.{NodeList, flat, first-of}
 use Rattle.model.specs.OpenedLists.{Named, named-by, named-first}
 use Rattle.model.specs.Means.{named-in, Reached, by-header, by-node}
 use Rattle.meaning.proofs.Base.{all-front}
-use Rattle.meaning.proofs.Members.{flat-append}
+use Rattle.meaning.proofs.Members.{flat-append, all-flat, flat-all}
 use Rattle.commits.specs.Body.{Tied}
-use Rattle.commits.proofs.Rows.{all-flat, flat-all, flat-instead}
+use Rattle.commits.proofs.Rows.{flat-instead}
 
 -- elements of a list -------------------------------------------------------------------------------------------------
 

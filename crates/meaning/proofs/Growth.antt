@@ -1,6 +1,6 @@
 -- Chains of fragments that grow at their end: the row of a log, the nodes of a list.
 -- Assumes nothing.
-use Prim.Native.Nat.{ℕ, zero, suc, _+_}
+use Prim.Native.Nat.{ℕ, zero, suc, _+_, _≤_}
 use mathlib.Core.Path.{_≡_, refl, sym, ap, _∙_, subst}
 use mathlib.Core.Bool.{true}
 use mathlib.Core.List.{List, [], _∷_, _++_}
@@ -11,6 +11,7 @@ use Rattle.std.specs.shelf.Lists.{All}
 use Rattle.std.proofs.shelf.Lists.{append-assoc, append-nil}
 use Rattle.std.proofs.shelf.Elements.{all-append}
 use Rattle.model.specs.declared.types.Span.{Span}
+use Rattle.model.specs.declared.types.Entry.{Entry}
 use Rattle.model.specs.declared.types.Header.{Header}
 use Rattle.model.specs.Bytes.{le}
 use Rattle.model.specs.References.{span, span-at}
@@ -18,7 +19,7 @@ use Rattle.model.specs.Nodes.{Node, hands-over}
 use Rattle.model.specs.ListFragments.{nodes-from, nodes-to}
 use Rattle.model.specs.LogFragments.{entry-at, entries-in, entry-place, log-next}
 use Rattle.model.specs.Section.{last-of}
-use Rattle.model.specs.Means.{Inside, Chain, entries-of, log-row, Good, Nodes, Spread, within, across, Marked, Numbered, List-part}
+use Rattle.model.specs.Means.{Inside, Chain, entries-of, log-row, Rising, Good, Nodes, Spread, within, across, Marked, Numbered, List-part}
 
 pub last-all : {A : Type 0} (P : A → Type 0) (d x : A) (xs : List A) → All P (x ∷ xs) → P (last-of d (x ∷ xs))
 last-all P d x [] (p, a) = p
@@ -63,6 +64,11 @@ pub chain-next : (b : List ℕ) (d r : Span) (f : Span) (fs : List Span) (x : Sp
 chain-next b d r f [] x (e, k) q = (e, (sym q, tt))
 chain-next b d r f (g ∷ gs) x (e, k) q = (e, chain-next b f (span-at b (log-next f)) g gs x k q)
 
+-- each entry's count is above the last, in a row that goes on
+pub rising-row : (before xs ys : List Entry) → Rising before xs → Rising (before ++ xs) ys → Rising before (xs ++ ys)
+rising-row before [] ys a c = subst (λ z. Rising z ys) (append-nil before) c
+rising-row before (x ∷ xs) ys (p, a) c = (p, rising-row (before ++ (x ∷ [])) xs ys a (subst (λ z. Rising z ys) (sym (append-assoc before (x ∷ []) xs)) c))
+
 -- list -------------------------------------------------------------------------------------------------------------
 
 nodes-push : (b : List ℕ) (stop p : ℕ) (ns : List Node) (q : ℕ) (n : Node) → Nodes b stop p ns q → Good b stop q n → Nodes b stop p (ns ++ (n ∷ [])) (q + n .size)
@@ -80,6 +86,11 @@ spread-on : (b : List ℕ) (d : Span) {fs : List Span} {ns : List Node} {q : ℕ
     → fresh ≡ span-at b (nodes-to (last-of d fs)) → Spread b (fs ++ (fresh ∷ [])) ns (nodes-from fresh)
 spread-on b d fresh (within {f = f} {ns = ns} {q = q} h) o e = across ns [] q h o e (within refl) (sym (append-nil ns))
 spread-on b d fresh (across {f = f} ns ms p h o e t u) o′ e′ = across ns ms p h o e (spread-on b f fresh t o′ e′) u
+
+-- there is a fragment
+pub spread-fragment : (b : List ℕ) {fs : List Span} {ns : List Node} {q : ℕ} → Spread b fs ns q → 1 ≤ length fs
+spread-fragment b (within h) = omega arith
+spread-fragment b (across ns ms p h o e t u) = omega arith
 
 numbered-push : (b : List ℕ) (id i : ℕ) (fs : List Span) (f : Span) → Numbered b id i fs → Marked b id (i + length fs) f → Numbered b id i (fs ++ (f ∷ []))
 numbered-push b id i [] f h m = (rw add-zero at m, tt)

@@ -2,7 +2,6 @@
 -- Assumes nothing.
 use Prim.Native.Nat.{ℕ, _-_, _≤_}
 use mathlib.Core.Path.{_≡_, refl, sym, ap, _∙_}
-use mathlib.Core.Logic.{inl, inr}
 use mathlib.Core.Bool.{true, false, not, _||_}
 use mathlib.Core.List.{List, [], _∷_, _++_, map}
 use native.Mathlib.Omega.{arith}
@@ -20,7 +19,7 @@ use Rattle.model.specs.Faults.{done, Check, unless, then}
 use Rattle.model.specs.References.{end-of}
 use Rattle.model.specs.Headers.{header-span, most, file-type, file-format, header-at}
 use Rattle.model.specs.Nodes.{Node, referring}
-use Rattle.model.specs.Section.{Log, NodeList, Section, flat, list-fragments, first-of}
+use Rattle.model.specs.Section.{Log, NodeList, Section, list-fragments, first-of}
 use Rattle.model.specs.OpenedLog.{log-from, reading}
 use Rattle.model.specs.OpenedLists.{named-first, lists-from}
 use Rattle.model.specs.Opened.{header-checks, data-checks, opened, all-data, last-part, part-lists, part-log}
@@ -28,7 +27,7 @@ use Rattle.model.specs.Means.{Apart, Headed, named-in, data-spans, Means, In-or
 use Rattle.model.specs.Breaks.{Walked}
 use Rattle.model.specs.Laws.{Meant-opens}
 use Rattle.meaning.proofs.Base.{Clean, unless-clean, all-front, apart-overlaps, Data-fits, references}
-use Rattle.meaning.proofs.Members.{In, has-from-in, in-map, in-flat, in-unflat, all-in, all-from-in}
+use Rattle.meaning.proofs.Members.{In, has-from-in, in-map, in-flat, in-unflat, all-in, all-from-in, flat-all}
 use Rattle.meaning.proofs.ReadLog.{logs-read}
 use Rattle.meaning.proofs.ReadQueue.{Stock, Right, lists-read, lists-end, walked-read}
 
@@ -67,10 +66,6 @@ data-passes end fs id (n ∷ ns) ((x, (y, z)), a) =
     let e : ltb end (end-of (n .reference)) ≡ false = grind (arith, tells) in
     (e, (apart-overlaps (n .reference) fs y z, data-passes end fs id ns a))
 
-all-flat : {X Y : Type 0} (P : Y → Type 0) (f : X → List Y) (xs : List X) → ((x : X) → In x xs → All P (f x)) → All P (flat (map f xs))
-all-flat P f [] k = tt
-all-flat P f (x ∷ xs) k = all-append P (f x) (flat (map f xs)) (k x (inl refl)) (all-flat P f xs (λ y i. k y (inr i)))
-
 -- the fragments of the same lists in another order
 same-fragments : (log : Log) (S T : List NodeList) (P : Span → Type 0) → ((l : NodeList) → In l T → In l S)
     → All P (log .fragments ++ list-fragments S) → All P (log .fragments ++ list-fragments T)
@@ -85,14 +80,15 @@ pub data-clean : (h : Header) (log : Log) (S T : List NodeList) → ((l : NodeLi
     → All (λ r. end-of r ≤ h .end) (data-spans S) → All (λ r. All (Apart r) (header-span ∷ (log .fragments ++ list-fragments S))) (data-spans S)
     → Clean (all-data h log T)
 data-clean h log S T k inside apart =
-    all-flat (λ (c : Check). c .0 ≡ false) (λ (l : NodeList). data-checks (h .end) (log .fragments ++ list-fragments T) (l .id) (referring 1 (l .nodes))) T (λ l i.
+    let checks : NodeList → List Check = λ l. data-checks (h .end) (log .fragments ++ list-fragments T) (l .id) (referring 1 (l .nodes)) in
+    flat-all (λ (c : Check). c .0 ≡ false) checks T (all-from-in (λ (l : NodeList). Clean (checks l)) T (λ l i.
     data-passes (h .end) (log .fragments ++ list-fragments T) (l .id) (referring 1 (l .nodes))
     (all-from-in (λ (n : Node). Data-fits (h .end) (log .fragments ++ list-fragments T) (n .reference)) (referring 1 (l .nodes)) (λ n j.
     let r : In (n .reference) (data-spans S)
     = in-flat (λ (l : NodeList). references (l .nodes)) S l (n .reference) (k l i) (in-map (λ (n : Node). n .reference) (referring 1 (l .nodes)) n j) in
     let a : All (Apart (n .reference)) (header-span ∷ (log .fragments ++ list-fragments S))
     = all-in (λ r. All (Apart r) (header-span ∷ (log .fragments ++ list-fragments S))) (data-spans S) (n .reference) apart r in
-    (all-in (λ r. end-of r ≤ h .end) (data-spans S) (n .reference) inside r, (a .0, same-fragments log S T (Apart (n .reference)) k (a .1))))))
+    (all-in (λ r. end-of r ≤ h .end) (data-spans S) (n .reference) inside r, (a .0, same-fragments log S T (Apart (n .reference)) k (a .1)))))))
 
 -- opening ----------------------------------------------------------------------------------------------------------
 

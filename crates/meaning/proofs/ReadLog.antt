@@ -24,6 +24,7 @@ use Rattle.model.specs.Section.{Log, flat, last-of, latest}
 use Rattle.model.specs.OpenedLog.{Reading, finished, unfinished, log-entries, log-from, reading, log-goes, log-checks}
 use Rattle.model.specs.Means.{Apart, Pairwise, Inside, Chain, entries-of, log-row, closed, Counts-lists, Rising, Log-part, Logs}
 use Rattle.meaning.proofs.Base.{Clean, unless-clean, all-front, inside-passes, apart-overlaps, apart-before}
+use Rattle.meaning.proofs.Members.{flat-append, flat-push}
 use Rattle.meaning.proofs.Growth.{row-more}
 
 -- where a log is that is right: ts are read, and `pending` of the next transaction; of that t is left, and the transactions us behind it
@@ -44,13 +45,8 @@ ahead-count ts pending e t us a = record {
   rising = subst (λ x. Rising x (t ++ flat us)) (append-assoc (flat ts) pending (e ∷ [])) (a .rising .1);
 }
 
-pub flat-push : {X : Type 0} (ts : List (List X)) (t : List X) → flat (ts ++ (t ∷ [])) ≡ flat ts ++ t
-flat-push [] t = append-nil t
-flat-push (u ∷ ts) t = ap (λ x. u ++ x) (flat-push ts t) ∙ sym (append-assoc u (flat ts) t)
-
 pub closed-push : (ts : List (List Entry)) (t : List Entry) → flat (map closed (ts ++ (t ∷ []))) ≡ flat (map closed ts) ++ closed t
-closed-push [] t = append-nil (closed t)
-closed-push (u ∷ ts) t = ap (λ x. closed u ++ x) (closed-push ts t) ∙ sym (append-assoc (closed u) (flat (map closed ts)) (closed t))
+closed-push ts t = flat-append closed ts (t ∷ []) ∙ ap (λ z. flat (map closed ts) ++ z) (append-nil (closed t))
 
 -- the next entry is a sentinel, and transactions come behind it
 ahead-sentinel : (ts : List (List Entry)) (pending u : List Entry) (us : List (List Entry)) → Ahead ts pending [] (u ∷ us) → Ahead (ts ++ (pending ∷ [])) [] u us

@@ -27,8 +27,9 @@ use Rattle.model.specs.Means.{Inside, log-row, closed, Counts-lists, Rising, Lo
 use Rattle.model.specs.Breaks.{Misplaced, Placed, log-field, log-reference, Log-breaks, fragment, sum, backward}
 use Rattle.meaning.proofs.Base.{pairs-push}
 use Rattle.meaning.proofs.Places.{place-tells, full-tells}
-use Rattle.meaning.proofs.Growth.{last-push, row-push, row-next, chain-next}
-use Rattle.meaning.proofs.ReadLog.{log-is, flat-push, closed-push}
+use Rattle.meaning.proofs.Growth.{last-push, row-push, row-next, chain-next, rising-row}
+use Rattle.meaning.proofs.Members.{flat-push}
+use Rattle.meaning.proofs.ReadLog.{log-is, closed-push}
 
 -- entries ----------------------------------------------------------------------------------------------------------
 
@@ -48,17 +49,12 @@ pub record Fair (ts : List (List Entry)) (pending : List Entry) : Type 0 where
   pub pending-lists : Counts-lists pending
   pub rising : Rising [] (flat ts ++ pending)
 
-rising-push : (before es : List Entry) (e : Entry) → Rising before es → latest (e .source) 0 (before ++ es) < e .number → Rising before (es ++ (e ∷ []))
-rising-push before [] e r l = (subst (λ w. latest (e .source) 0 w < e .number) (append-nil before) l, tt)
-rising-push before (x ∷ es) e (p, r) l =
-    (p, rising-push (before ++ (x ∷ [])) es e r (subst (λ w. latest (e .source) 0 w < e .number) (sym (append-assoc before (x ∷ []) es)) l))
-
 fair-count : (ts : List (List Entry)) (pending : List Entry) (e : Entry) → Fair ts pending → e .source ≢ 1 → latest (e .source) 0 (flat ts ++ pending) < e .number
     → Fair ts (pending ++ (e ∷ []))
 fair-count ts pending e f s l = record {
   lists = f .lists;
   pending-lists = all-append (λ (e : Entry). e .source ≢ 1) pending (e ∷ []) (f .pending-lists) (s, tt);
-  rising = subst (λ w. Rising [] w) (append-assoc (flat ts) pending (e ∷ [])) (rising-push [] (flat ts ++ pending) e (f .rising) l);
+  rising = subst (λ w. Rising [] w) (append-assoc (flat ts) pending (e ∷ [])) (rising-row [] (flat ts ++ pending) (e ∷ []) (f .rising) (l, tt));
 }
 
 fair-sentinel : (ts : List (List Entry)) (pending : List Entry) → Fair ts pending → Fair (ts ++ (pending ∷ [])) []
