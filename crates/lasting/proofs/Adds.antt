@@ -25,7 +25,9 @@ use Rattle.model.specs.Journal.{Fit-add}
 use Rattle.model.specs.Laws.{past-end, in-list, last-fragment, Free}
 use Rattle.meaning.proofs.Base.{Clean}
 use Rattle.meaning.proofs.Members.{In, has-from-in}
-use Rattle.lasting.proofs.Sizes.{length-digits, length-span-bytes, length-plain, length-referring, length-new-fragment, piece-ends, digits-bytes, span-bytes-bytes, plain-bytes, referring-bytes, fragment-bytes}
+use Rattle.commits.proofs.Sizes.{length-digits, length-span-bytes, length-plain, length-referring, length-new-fragment}
+use Rattle.commits.proofs.Sums.{digits-bytes}
+use Rattle.lasting.proofs.Sizes.{piece-ends, span-bytes-bytes, plain-bytes, referring-bytes, fragment-bytes}
 use Rattle.lasting.proofs.Steps.{Steps, steps-append, steps-none, steps-at-end, steps-within}
 
 -- ---- what is known of a draft over s

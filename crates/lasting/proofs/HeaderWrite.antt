@@ -14,7 +14,8 @@ use Rattle.model.specs.Committing.{header-write}
 use Rattle.model.specs.Cuts.{Writes-header}
 use Rattle.model.specs.Laws.{Taken}
 use Rattle.lasting.proofs.Rows.{length-applied, applied-bytes}
-use Rattle.lasting.proofs.Sizes.{length-digits, digits-bytes}
+use Rattle.commits.proofs.Sizes.{length-digits}
+use Rattle.commits.proofs.Sums.{digits-bytes}
 
 module _ (b : List ℕ) (h : Header) (end : ℕ) (guid : List ℕ) where
   -- the four fields that change
