@@ -20,10 +20,9 @@ use Rattle.model.specs.References.{end-of}
 use Rattle.model.specs.Headers.{header-span, most, file-type, file-format, header-at}
 use Rattle.model.specs.Nodes.{Node, referring}
 use Rattle.model.specs.Section.{Log, NodeList, Section, list-fragments, first-of}
-use Rattle.model.specs.OpenedLog.{log-from, reading}
-use Rattle.model.specs.OpenedLists.{named-first, lists-from}
+use Rattle.model.specs.OpenedLists.{Named, named-first, lists-from}
 use Rattle.model.specs.Opened.{header-checks, data-checks, opened, all-data, last-part, part-lists, part-log}
-use Rattle.model.specs.Means.{Apart, Headed, named-in, data-spans, Means, In-order}
+use Rattle.model.specs.Means.{Apart, Headed, Logs, named-in, data-spans, Means, In-order}
 use Rattle.model.specs.Breaks.{Walked}
 use Rattle.model.specs.Laws.{Meant-opens}
 use Rattle.meaning.proofs.Base.{Clean, unless-clean, all-front, apart-overlaps, Data-fits, references}
@@ -92,25 +91,26 @@ data-clean h log S T k inside apart =
 
 -- opening ----------------------------------------------------------------------------------------------------------
 
--- the parts of opening
-pub record Opens (b : List ℕ) (s : Section) : Type 0 where
-  pub checks : Clean (header-checks b)
-  pub header : header-at b ≡ s .header
-  pub log : log-from 2048 b (s .header) [] 0xA0 (s .header .log) (reading [] []) ≡ done (s .log)
-  pub lists : lists-from 1024 b (s .header) (s .log) (named-first (s .header)) [] ≡ done (s .lists)
-  pub content : Clean (all-data (s .header) (s .log) (s .lists))
-
 pub opened-step : (b : List ℕ) → opened b ≡ unless (header-checks b) (part-log b (header-at b))
 unfolding opened
 opened-step b = refl
 
-pub opens-back : (b : List ℕ) (s : Section) → Opens b s → opened b ≡ done s
-opens-back b s o =
-    opened-step b ∙ unless-clean (header-checks b) (part-log b (header-at b)) (o .checks)
-    ∙ ap (λ h. part-log b h) (o .header)
-    ∙ ap (λ a. then a (part-lists b (s .header))) (o .log)
-    ∙ ap (λ a. then a (last-part (s .header) (s .log))) (o .lists)
-    ∙ unless-clean (all-data (s .header) (s .log) (s .lists)) _ (o .content)
+module _ (b : List ℕ) (h : Header) where
+  -- opening goes on behind a header that is right, a log and lists
+  pub behind-header : Headed b h → opened b ≡ part-log b h
+  behind-header k = opened-step b ∙ unless-clean (header-checks b) (part-log b (header-at b)) (headed-passes b h k) ∙ ap (λ h. part-log b h) (sym (k .fields))
+
+  pub behind-log : (log : Log) → Headed b h → Logs b h log → opened b ≡ part-lists b h log
+  behind-log log k l = behind-header k ∙ ap (λ a. then a (part-lists b h)) (logs-read b h log l (k .counts))
+
+  pub behind-lists : (log : Log) (ls : List NodeList) (queue : List Named) → Headed b h → Logs b h log → Walked b h log ls queue
+      → opened b ≡ then (lists-from (1024 - length ls) b h log queue ls) (last-part h log)
+  behind-lists log ls queue k l w = behind-log log k l ∙ ap (λ a. then a (last-part h log)) (walked-read b h log ls queue w)
+
+  -- and ends where the data is right
+  behind-data : (log : Log) (S T : List NodeList) → ((l : NodeList) → In l T → In l S) → All (λ r. end-of r ≤ h .end) (data-spans S)
+      → All (λ r. All (Apart r) (header-span ∷ (log .fragments ++ list-fragments S))) (data-spans S) → last-part h log T ≡ done (record { header = h; log = log; lists = T })
+  behind-data log S T k inside apart = unless-clean (all-data h log T) _ (data-clean h log S T k inside apart)
 
 -- the whole --------------------------------------------------------------------------------------------------------
 
@@ -138,13 +138,8 @@ means-opens b s m =
     let (T, r, k, o) = lists-read 1024 b (s .header) (s .log) (s .lists) [] (s .lists) (named-first (s .header)) (means-right b s m) (means-stock b s m)
     (ap (λ w. map (λ q. q .1) w) (append-nil (named-first (s .header)))) (m .few-lists) in (
       T,
-      opens-back b (reordered s T) (record {
-        checks = headed-passes b (s .header) (m .header);
-        header = sym (m .header .fields);
-        log = logs-read b (s .header) (s .log) (m .log) (m .header .counts);
-        lists = r;
-        content = data-clean (s .header) (s .log) (s .lists) T (k .to) (m .data-inside) (m .data-apart);
-      }),
+      behind-log b (s .header) (s .log) (m .header) (m .log) ∙ ap (λ a. then a (last-part (s .header) (s .log))) r
+          ∙ behind-data b (s .header) (s .log) (s .lists) T (k .to) (m .data-inside) (m .data-apart),
       k,
       o,
     )
@@ -178,10 +173,7 @@ means-walked b s m i =
 
 -- and as s itself, if its lists stand in that order
 pub means-opens-in-order : (b : List ℕ) (s : Section) → Means b s → In-order (s .header) (s .lists) → opened b ≡ done s
-means-opens-in-order b s m i = opens-back b s (record {
-  checks = headed-passes b (s .header) (m .header);
-  header = sym (m .header .fields);
-  log = logs-read b (s .header) (s .log) (m .log) (m .header .counts);
-  lists = walked-read b (s .header) (s .log) (s .lists) [] (means-walked b s m i) ∙ lists-end (1024 - length (s .lists)) b (s .header) (s .log) (s .lists);
-  content = data-clean (s .header) (s .log) (s .lists) (s .lists) (λ l i. i) (m .data-inside) (m .data-apart);
-})
+means-opens-in-order b s m i =
+    behind-lists b (s .header) (s .log) (s .lists) [] (m .header) (m .log) (means-walked b s m i)
+    ∙ ap (λ a. then a (last-part (s .header) (s .log))) (lists-end (1024 - length (s .lists)) b (s .header) (s .log) (s .lists))
+    ∙ behind-data b (s .header) (s .log) (s .lists) (s .lists) (λ l i. i) (m .data-inside) (m .data-apart)

@@ -15,17 +15,15 @@ use Rattle.model.specs.ListFragments.{owner}
 use Rattle.model.specs.Section.{Log, NodeList}
 use Rattle.model.specs.OpenedLog.{outside}
 use Rattle.model.specs.OpenedLists.{Named, named-by, named-list, lists-from}
-use Rattle.model.specs.Opened.{header-checks, opened, last-part, part-lists, part-log}
-use Rattle.model.specs.Means.{Headed, Logs}
-use Rattle.model.specs.Breaks.{Walked, First-breaks, Rest-breaks, Breaks, in-header, in-log, in-first, in-list, in-data}
+use Rattle.model.specs.Opened.{opened, last-part, part-lists, part-log}
+use Rattle.model.specs.Breaks.{First-breaks, Rest-breaks, Breaks, in-header, in-log, in-first, in-list, in-data}
 use Rattle.model.specs.Breaks.First-breaks.{place as first-place, outside as first-outside, full as first-full, unmarked as first-unmarked, twice, unlisted}
 use Rattle.model.specs.Breaks.Rest-breaks.{node, place, unmarked as rest-unmarked}
 use Rattle.model.specs.Laws.{Refused-breaks}
-use Rattle.meaning.proofs.Base.{unless-clean, unless-broken, inside-passes}
+use Rattle.meaning.proofs.Base.{unless-broken, inside-passes}
 use Rattle.meaning.proofs.Places.{is-not-inside}
-use Rattle.meaning.proofs.ReadLog.{logs-read}
-use Rattle.meaning.proofs.ReadQueue.{lists-step, lists-end, walked-read}
-use Rattle.meaning.proofs.MeantOpens.{headed-passes, opened-step}
+use Rattle.meaning.proofs.ReadQueue.{lists-step, lists-end}
+use Rattle.meaning.proofs.MeantOpens.{opened-step, behind-header, behind-lists}
 use Rattle.meaning.proofs.OpensMeans.{refusal-told}
 use Rattle.meaning.proofs.DataChecks.{data-refused}
 use Rattle.meaning.proofs.BreakLog.{log-breaks}
@@ -62,17 +60,6 @@ module _ (b : List ℕ) (h : Header) where
       → lists-from n b h log (q ∷ qs) ls ≡ refused e
   rest-refused zero log ls q qs e l w = absurd (let few = rest-few log ls (q .1) e w in omega arith)
   rest-refused (suc n) log ls q qs e l w = next-refused n log ls q qs e (rest-breaks b h log ls (q .1) (q .0) e w)
-
-  -- opening goes on behind a header that is right, a log and lists
-  behind-header : Headed b h → opened b ≡ part-log b h
-  behind-header k = opened-step b ∙ unless-clean (header-checks b) (part-log b (header-at b)) (headed-passes b h k) ∙ ap (λ h. part-log b h) (sym (k .fields))
-
-  behind-log : (log : Log) → Headed b h → Logs b h log → opened b ≡ part-lists b h log
-  behind-log log k l = behind-header k ∙ ap (λ a. then a (part-lists b h)) (logs-read b h log l (k .counts))
-
-  behind-lists : (log : Log) (ls : List NodeList) (queue : List Named) → Headed b h → Logs b h log → Walked b h log ls queue
-      → opened b ≡ then (lists-from (1024 - length ls) b h log queue ls) (last-part h log)
-  behind-lists log ls queue k l w = behind-log log k l ∙ ap (λ a. then a (last-part h log)) (walked-read b h log ls queue w)
 
 breaks-refused : (b : List ℕ) (f : Fault) → Breaks b f → opened b ≡ refused f
 breaks-refused b f (in-header before later c e) = opened-step b ∙ ap (λ cs. unless cs (part-log b (header-at b))) e ∙ unless-broken before later f (part-log b (header-at b)) c
