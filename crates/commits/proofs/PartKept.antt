@@ -1,7 +1,7 @@
 -- A list as far as it is right stays so, where no byte of it is written.
 -- Assumes nothing.
 use Prim.Native.Nat.{ℕ, _+_, _-_, _≤_}
-use mathlib.Core.Path.{refl, sym, _∙_}
+use mathlib.Core.Path.{_≡_, refl, sym, ap, _∙_}
 use mathlib.Core.Logic.{inl, inr}
 use mathlib.Core.List.{List, [], _∷_}
 use native.Mathlib.Omega.{arith}
@@ -13,43 +13,46 @@ use Rattle.model.specs.References.{span, end-of}
 use Rattle.model.specs.Nodes.{Node}
 use Rattle.model.specs.ListFragments.{nodes-from, nodes-to}
 use Rattle.model.specs.Section.{last-of}
-use Rattle.model.specs.Means.{Apart, Pairwise, Inside, Spread, within, across, Marked, Numbered, List-part}
+use Rattle.model.specs.Means.{Apart, Pairwise, Inside, Spread, within, across, Numbered, List-part}
 use Rattle.meaning.proofs.Frames.{le-in}
 use Rattle.meaning.proofs.Local.{Agree, spread-local, nodes-inside, nodes-reach}
 use Rattle.meaning.proofs.Base.{apart-back}
 use Rattle.commits.specs.Around.{Around, Ahead}
 use Rattle.meaning.proofs.Growth.{last-all}
-use Rattle.commits.proofs.Around.{other-same}
+use Rattle.commits.proofs.Around.{Kept, other-same}
 
 -- frames -----------------------------------------------------------------------------------------------------------
 
-pub marked-same : (b c : List ℕ) (id number : ℕ) (f : Span) → 36 ≤ f .size → Same b c (f .start) (f .start + 16) → Same b c (end-of f - 8) (end-of f) → Marked b id number f → Marked c id number f
-marked-same b c id number f h s t m = record {
-  first = sym (le-in 8 b c (f .start) (f .start + 16) (f .start) s (omega arith) (omega arith)) ∙ m .first;
-  last = sym (le-in 8 b c (end-of f - 8) (end-of f) (end-of f - 8) t (omega arith) (omega arith)) ∙ m .last;
-  list = sym (le-in 4 b c (f .start) (f .start + 16) (f .start + 8) s (omega arith) (omega arith)) ∙ m .list;
-  sequence-number = sym (le-in 4 b c (f .start) (f .start + 16) (f .start + 12) s (omega arith) (omega arith)) ∙ m .sequence-number;
-}
+-- both ends of a fragment are the same: its first 16 bytes, and its last 8
+abbrev pub Ends-same : List ℕ → List ℕ → Span → Type 0
+Ends-same b c f = Same b c (f .start) (f .start + 16) × Same b c (end-of f - 8) (end-of f)
 
-marked-other : (b c : List ℕ) (end : ℕ) (g : Span) (lo : ℕ) → Around b c end g lo 16 8 → (id number : ℕ) (f : Span) → Inside 36 end f → Apart g f → Marked b id number f → Marked c id number f
-marked-other b c end g lo o id number f (h, k) a m =
-    let s = other-same b c end g lo 16 8 o f a k in
-    marked-same b c id number f h (λ i l j. s i l (omega arith)) (λ i l j. s i (omega arith) j) m
+pub numbered-same : (b c : List ℕ) (end id i : ℕ) (fs : List Span) → All (Inside 36 end) fs → All (Ends-same b c) fs → Numbered b id i fs → Numbered c id i fs
+numbered-same b c end id i [] a k m = tt
+numbered-same b c end id i (f ∷ fs) ((x, y), a) ((s, t), k) (m, ms) = (
+  record {
+    first = sym (le-in 8 b c (f .start) (f .start + 16) (f .start) s (omega arith) (omega arith)) ∙ m .first;
+    last = sym (le-in 8 b c (end-of f - 8) (end-of f) (end-of f - 8) t (omega arith) (omega arith)) ∙ m .last;
+    list = sym (le-in 4 b c (f .start) (f .start + 16) (f .start + 8) s (omega arith) (omega arith)) ∙ m .list;
+    sequence-number = sym (le-in 4 b c (f .start) (f .start + 16) (f .start + 12) s (omega arith) (omega arith)) ∙ m .sequence-number;
+  },
+  numbered-same b c end id (i + 1) fs a k ms,
+)
 
-marked-own : (b c : List ℕ) (end : ℕ) (g : Span) (lo : ℕ) → Around b c end g lo 16 8 → (id number : ℕ) → Inside 36 end g → Marked b id number g → Marked c id number g
-marked-own b c end g lo o id number (h, k) m =
-    marked-same b c id number g h
-    (λ i l j. o .kept i (omega arith) (inl (omega (arith, o .from))))
-    (λ i l j. o .kept i (omega arith) (inr (omega arith))) m
+pub kept-ends : (b c : List ℕ) (f : Span) → 36 ≤ f .size → Kept b c f → Ends-same b c f
+kept-ends b c f h s = (λ i l j. s i l (omega arith), λ i l j. s i (omega arith) j)
 
-pub numbered-kept : (b c : List ℕ) (end : ℕ) (g : Span) (lo : ℕ) → Around b c end g lo 16 8 → (id i : ℕ) (fs : List Span) (q : ℕ) → All (Inside 36 end) fs → Ahead g lo fs q
-    → Numbered b id i fs → Numbered c id i fs
-numbered-kept b c end g lo o id i [] q a h m = tt
-numbered-kept b c end g lo o id i (f ∷ []) q (a, as′) (inl (e, l)) (m, ms) = (rw e (marked-own b c end g lo o id i (rw e at a) (rw e at m)), tt)
-numbered-kept b c end g lo o id i (f ∷ []) q (a, as′) (inr h) (m, ms) = (marked-other b c end g lo o id i f a h m, tt)
-numbered-kept b c end g lo o id i (f ∷ (f′ ∷ fs)) q (a, as′) (h, hs) (m, ms) = (marked-other b c end g lo o id i f a h m, numbered-kept b c end g lo o id (i + 1) (f′ ∷ fs) q as′ hs ms)
+ends-kept : (b c : List ℕ) (end : ℕ) (g : Span) (lo : ℕ) → Around b c end g lo 16 8 → (fs : List Span) (q : ℕ) → All (Inside 36 end) fs → Ahead g lo fs q → All (Ends-same b c) fs
+ends-kept b c end g lo o [] q a h = tt
+ends-kept b c end g lo o (f ∷ []) q ((x, y), as′) (inl (e, l)) =
+    let from = o .from in
+    let start : f .start ≡ g .start = ap (λ (x : Span). x .start) e in
+    let size : f .size ≡ g .size = ap (λ (x : Span). x .size) e in
+    (((λ i m k. o .kept i (omega arith) (inl (omega arith))), λ i m k. o .kept i (omega arith) (inr (omega arith))), tt)
+ends-kept b c end g lo o (f ∷ []) q ((x, y), as′) (inr h) = (kept-ends b c f x (other-same b c end g lo 16 8 o f h y), tt)
+ends-kept b c end g lo o (f ∷ (f′ ∷ fs)) q ((x, y), as′) (h, hs) = (kept-ends b c f x (other-same b c end g lo 16 8 o f h y), ends-kept b c end g lo o (f′ ∷ fs) q as′ hs)
 
-pub agree-kept : (b c : List ℕ) (end : ℕ) (g : Span) (lo : ℕ) → Around b c end g lo 16 8 → (fs : List Span) (q : ℕ) → All (Inside 36 end) fs → q ≤ end-of (last-of (span 0 0) fs) → Ahead g lo fs q → Agree b c fs q
+agree-kept : (b c : List ℕ) (end : ℕ) (g : Span) (lo : ℕ) → Around b c end g lo 16 8 → (fs : List Span) (q : ℕ) → All (Inside 36 end) fs → q ≤ end-of (last-of (span 0 0) fs) → Ahead g lo fs q → Agree b c fs q
 agree-kept b c end g lo o [] q a u h = tt
 agree-kept b c end g lo o (f ∷ []) q ((x, y), as′) u (inl (e, l)) =
     ((λ i m k. o .kept i (omega arith) (inl (omega arith))), omega (arith, o .before), omega (arith, o .after))
@@ -78,7 +81,7 @@ part-kept b c h h′ g lo id fs ns q o k a p =
     let (x, y, z, w) = spread-ends b (h .end) (span 0 0) (p .spread) (p .inside) in
     record {
       inside = inside-more (h .end) (h′ .end) fs k (p .inside);
-      marks = numbered-kept b c (h .end) g lo o id 0 fs q (p .inside) a (p .marks);
+      marks = numbered-same b c (h .end) id 0 fs (p .inside) (ends-kept b c (h .end) g lo o fs q (p .inside) a) (p .marks);
       real = p .real;
       spread = spread-local b c (p .spread) (agree-kept b c (h .end) g lo o fs q (p .inside) (omega arith) a);
     }

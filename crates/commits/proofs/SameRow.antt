@@ -15,21 +15,16 @@ use Rattle.model.specs.References.{span, end-of}
 use Rattle.model.specs.Headers.{header-span, header-at}
 use Rattle.model.specs.LogFragments.{entries-in}
 use Rattle.model.specs.Section.{Log, NodeList, last-of, list-fragments}
-use Rattle.model.specs.Means.{Inside, Headed, Logs, Numbered, data-spans}
+use Rattle.model.specs.Means.{Inside, Headed, Logs, data-spans}
 use Rattle.model.specs.Committing.{header-write}
 use Rattle.meaning.proofs.Frames.{le-in, piece-in}
 use Rattle.meaning.proofs.Local.{Agree, spread-local}
 use Rattle.commits.specs.Body.{Right, Body}
 use Rattle.meaning.proofs.Members.{all-flat}
 use Rattle.commits.proofs.Rows.{all-both}
-use Rattle.commits.proofs.PartKept.{marked-same, spread-ends, inside-more}
+use Rattle.commits.proofs.PartKept.{Ends-same, numbered-same, kept-ends, spread-ends, inside-more}
 use Rattle.commits.proofs.LogAdded.{Log-agree, row-local, chain-local, next-inside}
 use Rattle.commits.proofs.Around.{Kept}
-
-numbered-same : (b c : List ℕ) (end id i : ℕ) (fs : List Span) → All (Inside 36 end) fs → All (Kept b c) fs → Numbered b id i fs → Numbered c id i fs
-numbered-same b c end id i [] a k m = tt
-numbered-same b c end id i (f ∷ fs) ((x, y), a) (s, k) (m, ms) =
-    (marked-same b c id i f x (λ j l h. s j l (omega arith)) (λ j l h. s j (omega arith) h) m, numbered-same b c end id (i + 1) fs a k ms)
 
 agree-same : (b c : List ℕ) (end : ℕ) (fs : List Span) (q : ℕ) → All (Inside 36 end) fs → All (Kept b c) fs → q ≤ end-of (last-of (span 0 0) fs) → end ≤ length b → end ≤ length c → Agree b c fs q
 agree-same b c end [] q a k u x y = tt
@@ -43,7 +38,8 @@ right-same b c h h′ l x y z k r =
     record {
       part = record {
         inside = inside-more (h .end) (h′ .end) (l .fragments) z (p .inside);
-        marks = numbered-same b c (h .end) (l .id) 0 (l .fragments) (p .inside) k (p .marks);
+        marks = numbered-same b c (h .end) (l .id) 0 (l .fragments) (p .inside)
+            (all-both (Inside 36 (h .end)) (Kept b c) (Ends-same b c) (l .fragments) (λ f i s. kept-ends b c f (i .0) s) (p .inside) k) (p .marks);
         real = p .real;
         spread = spread-local b c (p .spread) (agree-same b c (h .end) (l .fragments) (l .free) (p .inside) k (omega arith) x y);
       };

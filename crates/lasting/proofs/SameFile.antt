@@ -12,14 +12,14 @@ use Rattle.model.specs.Faults.{done}
 use Rattle.model.specs.References.{span, end-of}
 use Rattle.model.specs.Section.{NodeList, Section}
 use Rattle.model.specs.Opened.{opened}
-use Rattle.model.specs.Means.{Inside, Numbered, Stands, Means}
+use Rattle.model.specs.Means.{Inside, Stands, Means}
 use Rattle.model.specs.Laws.{in-header, in-log, in-list, but-last, last-fragment, list-footprint, log-footprint, Footprint}
 use Rattle.meaning.proofs.Members.{In, has-from-in, all-in, all-from-in}
 use Rattle.meaning.proofs.Local.{Agree, spread-local}
 use Rattle.meaning.proofs.MeantOpens.{means-opens-in-order}
 use Rattle.meaning.proofs.OpensMeans.{opens-means}
 use Rattle.commits.proofs.Around.{Kept}
-use Rattle.commits.proofs.PartKept.{marked-same}
+use Rattle.commits.proofs.PartKept.{Ends-same, numbered-same, kept-ends}
 use Rattle.commits.proofs.LogAdded.{Log-agree}
 use Rattle.commits.proofs.SameRow.{logs-agree, headed-same}
 use Rattle.lasting.proofs.Places.{List-end, list-end}
@@ -34,19 +34,13 @@ module _ (b c : List ℕ) where
 
   -- ---- lists
 
-  numbered-same : (end id i : ℕ) (fs : List Span) → All (Inside 36 end) fs → All (Kept b c) (but-last fs)
-      → Same b c (last-fragment fs .start) (last-fragment fs .start + 16) → Kept b c (span (end-of (last-fragment fs) - 8) 8)
-      → Numbered b id i fs → Numbered c id i fs
-  numbered-same end id i [] n a s t m = tt
-  numbered-same end id i (f ∷ []) n a s t m =
+  ends-on : (end : ℕ) (fs : List Span) → All (Inside 36 end) fs → All (Kept b c) (but-last fs)
+      → Same b c (last-fragment fs .start) (last-fragment fs .start + 16) → Kept b c (span (end-of (last-fragment fs) - 8) 8) → All (Ends-same b c) fs
+  ends-on end [] n a s t = tt
+  ends-on end (f ∷ []) n a s t =
       let k : 36 ≤ f .size = n .0 .0 in
-      (marked-same b c id i f k s (λ j x y. t j x (omega arith)) (m .0), tt)
-  numbered-same end id i (f ∷ (g ∷ gs)) n a s t m =
-      let k : 36 ≤ f .size = n .0 .0 in
-      let w = a .0 in (
-        marked-same b c id i f k (λ j x y. w j (omega arith) (omega arith)) (λ j x y. w j (omega arith) (omega arith)) (m .0),
-        numbered-same end id (i + 1) (g ∷ gs) (n .1) (a .1) s t (m .1),
-      )
+      ((s, λ j x y. t j x (omega arith)), tt)
+  ends-on end (f ∷ (g ∷ gs)) n a s t = (kept-ends b c f (n .0 .0) (a .0), ends-on end (g ∷ gs) (n .1) (a .1) s t)
 
   agree-on : (end : ℕ) (fs : List Span) (q : ℕ) → end ≤ length b → end ≤ length c → All (Inside 36 end) fs → All (Kept b c) (but-last fs)
       → Same b c (last-fragment fs .start) q → q ≤ end → Agree b c fs q
@@ -68,7 +62,7 @@ module _ (b c : List ℕ) where
       record {
         part = record {
           inside = p .inside;
-          marks = numbered-same (s .header .end) (l .id) 0 (l .fragments) (p .inside) a (λ i j k. u i j (omega arith)) t (p .marks);
+          marks = numbered-same b c (s .header .end) (l .id) 0 (l .fragments) (p .inside) (ends-on (s .header .end) (l .fragments) (p .inside) a (λ i j k. u i j (omega arith)) t) (p .marks);
           real = p .real;
           spread = spread-local b c (p .spread) (agree-on (s .header .end) (l .fragments) (l .free) x y (p .inside) a (λ i j k. u i j (omega arith)) (omega arith));
         };
