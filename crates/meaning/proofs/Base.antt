@@ -1,4 +1,4 @@
--- Outcomes that are not refused, ranges apart, and lists whose elements stand apart pairwise.
+-- Outcomes, ranges apart, and lists whose elements stand apart pairwise.
 -- Assumes nothing.
 use Prim.Native.Nat.{ℕ, _≤_}
 use mathlib.Core.Path.{_≡_, refl, ap}
@@ -13,7 +13,7 @@ use Rattle.std.proofs.shelf.Tests.{cases-bool, or-from, or-parts}
 use Rattle.std.proofs.shelf.Elements.{all-append, all-weaker}
 use Rattle.model.specs.declared.types.Span.{Span}
 use Rattle.model.specs.declared.types.Fault.{Fault}
-use Rattle.model.specs.Faults.{Outcome, done, refused, Check, unless}
+use Rattle.model.specs.Faults.{Outcome, refused, Check, unless}
 use Rattle.model.specs.References.{share, meets, end-of}
 use Rattle.model.specs.Headers.{header-span}
 use Rattle.model.specs.OpenedLog.{outside, overlaps}
@@ -25,11 +25,6 @@ use Rattle.model.specs.Nodes.{Node, referring}
 -- no rule is broken
 abbrev pub Clean : List Check → Type 0
 Clean cs = All (λ c. c .0 ≡ false) cs
-
-pub unless-done : {A : Type 0} (cs : List Check) (a : Outcome A) (x : A) → unless cs a ≡ done x → Clean cs × (a ≡ done x)
-unless-done [] a x e = (tt, e)
-unless-done ((true, f) ∷ cs) a x e = absurd (grind arith)
-unless-done ((false, f) ∷ cs) a x e = let (c, d) = unless-done cs a x e in ((refl, c), d)
 
 pub unless-clean : {A : Type 0} (cs : List Check) (a : Outcome A) → Clean cs → unless cs a ≡ a
 unless-clean [] a k = refl

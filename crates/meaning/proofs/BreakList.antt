@@ -54,10 +54,10 @@ module _ (b : List ℕ) (h : Header) (log : Log) (ls : List NodeList) (first : S
   -- its first fragment ---------------------------------------------------------------------------------------------------------
 
   first-placed : (n field : ℕ) (e : Fault) → n ≡ 2048 - length before → Placed 36 (h .end) before first → ((a : Outcome NodeList) → unless (
-        (mislabelled b (owner b first) 0 first, fault 8 3 (first .start) 0)
-        ∷ (taken (owner b first) ls, fault 12 3 (first .start) (owner b first))
-        ∷ (eqb (count-in (log .transactions) (owner b first)) 0, fault 10 3 (first .start) (owner b first))
-        ∷ []
+      (mislabelled b (owner b first) 0 first, fault 8 3 (first .start) 0)
+      ∷ (taken (owner b first) ls, fault 12 3 (first .start) (owner b first))
+      ∷ (eqb (count-in (log .transactions) (owner b first)) 0, fault 10 3 (first .start) (owner b first))
+      ∷ []
       ) a ≡ refused e)
       → list-from n b (h .end) (count-in (log .transactions) (owner b first)) ls before (owner b first) field first [] [] ≡ refused e
   first-placed zero field e l p k = let room = p .room in absurd (omega arith)

@@ -73,10 +73,10 @@ module _ (b : List ℕ) (end count : ℕ) (ls : List NodeList) (before : List Sp
 
   pub first-step : (n : ℕ) → list-from (suc n) b end count ls before id field f [] []
       ≡ unless (place-checks 36 end 3 0 field before f) (unless (
-        (mislabelled b id 0 f, fault 8 3 (f .start) 0)
-        ∷ (taken id ls, fault 12 3 (f .start) id)
-        ∷ (eqb count 0, fault 10 3 (f .start) id)
-        ∷ []
+      (mislabelled b id 0 f, fault 8 3 (f .start) 0)
+      ∷ (taken id ls, fault 12 3 (f .start) id)
+      ∷ (eqb count 0, fault 10 3 (f .start) id)
+      ∷ []
       ) (nodes-then n [] []))
   unfolding list-from
   first-step n = rw (append-nil before)

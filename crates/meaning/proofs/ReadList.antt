@@ -101,12 +101,14 @@ module _ (b : List ℕ) (end count : ℕ) (ls : List NodeList) (before : List Sp
       let x : n ≡ m = omega arith in
       let y = length-append ns ms in
       let u : length ns + length ms ≤ count = far c in
-      let v : count - length ns - length ms ≡ count - length (ns ++ ms) = omega arith in
-      (fs, refl,
-      list-enters n field f fs [] ns (i .0) (k .0) a
-      ∙ ap (λ z. then z (list-goes (list-from n b end count ls before id) b id f fs)) (nodes-through (count - length ns) b id (nodes-to f) (nodes-from f) ns ms q w (omega arith)
-      ∙ ap (λ z. nodes-at z b id (nodes-to f) q (ns ++ ms)) v)
-      ∙ ap (λ z. from-node b end count ls before id z fs f (ns ++ ms) q) x)
+      let v : count - length ns - length ms ≡ count - length (ns ++ ms) = omega arith in (
+        fs,
+        refl,
+        list-enters n field f fs [] ns (i .0) (k .0) a
+            ∙ ap (λ z. then z (list-goes (list-from n b end count ls before id) b id f fs)) (nodes-through (count - length ns) b id (nodes-to f) (nodes-from f) ns ms q w (omega arith)
+            ∙ ap (λ z. nodes-at z b id (nodes-to f) q (ns ++ ms)) v)
+            ∙ ap (λ z. from-node b end count ls before id z fs f (ns ++ ms) q) x,
+      )
     where
       far : (length ns + length ms < count) ⊎ ((length ns + length ms ≡ count) × (nodes-from f < q)) → length ns + length ms ≤ count
       far (inl x) = omega arith
@@ -118,13 +120,15 @@ module _ (b : List ℕ) (end count : ℕ) (ls : List NodeList) (before : List Sp
       let apart : Pairwise Apart (header-span ∷ ((before ++ (fs ++ (f ∷ []))) ++ (g ∷ gs)))
       = subst (λ x. Pairwise Apart (header-span ∷ x)) (sym (append-assoc (before ++ fs) (f ∷ []) (g ∷ gs)) ∙ ap (λ x. x ++ (g ∷ gs)) (append-assoc before fs (f ∷ []))) a in
       let (short, far) = goes-on ks js c s (omega arith) in
-      let (front, last, walk) = list-walks n m (nodes-to f) g gs (fs ++ (f ∷ [])) (ns ++ ks) js q s (i .1) num apart far (omega arith) in
-      (front, last ∙ append-assoc fs (f ∷ []) (g ∷ gs),
-      list-enters n field f fs (g ∷ gs) ns (i .0) (k .0) a
-      ∙ ap (λ z. then z (list-goes (list-from n b end count ls before id) b id f fs)) (nodes-through (count - length ns) b id (nodes-to f) (nodes-from f) ns ks p w (omega arith)
-      ∙ nodes-handed (count - length ns - length ks) b id (nodes-to f) p (ns ++ ks) (omega arith) h)
-      ∙ ap (λ (x : Span). list-from n b end count ls before id (nodes-to f) x (fs ++ (f ∷ [])) (ns ++ ks)) (sym e) ∙ walk
-      ∙ ap (λ z. from-node b end count ls before id m front (last-of g gs) z q) (append-assoc ns ks js ∙ ap (λ x. ns ++ x) (sym split)))
+      let (front, last, walk) = list-walks n m (nodes-to f) g gs (fs ++ (f ∷ [])) (ns ++ ks) js q s (i .1) num apart far (omega arith) in (
+        front,
+        last ∙ append-assoc fs (f ∷ []) (g ∷ gs),
+        list-enters n field f fs (g ∷ gs) ns (i .0) (k .0) a
+            ∙ ap (λ z. then z (list-goes (list-from n b end count ls before id) b id f fs)) (nodes-through (count - length ns) b id (nodes-to f) (nodes-from f) ns ks p w (omega arith)
+            ∙ nodes-handed (count - length ns - length ks) b id (nodes-to f) p (ns ++ ks) (omega arith) h)
+            ∙ ap (λ (x : Span). list-from n b end count ls before id (nodes-to f) x (fs ++ (f ∷ [])) (ns ++ ks)) (sym e) ∙ walk
+            ∙ ap (λ z. from-node b end count ls before id m front (last-of g gs) z q) (append-assoc ns ks js ∙ ap (λ x. ns ++ x) (sym split)),
+      )
     where
       goes-on : (ks js : List Node) → Far count (length ns + length ms) (last-of g gs) q → Spread b (g ∷ gs) js q → length ms ≡ length ks + length js
           → (length ns + length ks < count) × Far count (length (ns ++ ks) + length js) (last-of g gs) q

@@ -1,4 +1,4 @@
--- A log that is right is read as it is.
+-- A log that is right is read as it is, and one that is right up to some entry is read up to there.
 -- Assumes nothing.
 use Prim.Native.Nat.{ℕ, zero, suc, _+_, _-_, _<_, _≤_}
 use mathlib.Core.Path.{_≡_, refl, sym, ap, _∙_, subst}
@@ -182,11 +182,19 @@ log-walks zero m b h fs field f gs used ts pending t us es c i p l a k q o u = a
 log-walks (suc n) m b h fs field f [] used ts pending t us es c i p l a k q o u =
     let (ts′, pending′, t′, us′, go, r, w, a′) = entries-on used (entries-in (f .size)) b (h .count) f 0 ts pending t us es a k q o u in
     let x : n ≡ m = omega arith in
-    let y : 0 + used ≡ used = omega arith in
-    (fs, ts′, pending′, t′, us′,
-    log-enters n b h fs field f [] (reading ts pending) (i .0) p
-    ∙ ap (λ z. then z (log-goes (log-from n b h) b fs f)) (go ∙ ap (λ z. log-entries (entries-in (f .size) - used) b (h .count) f z (reading ts′ pending′)) y)
-    ∙ ap (λ z. from-entry z b h fs f used (reading ts′ pending′)) x, refl, r, w)
+    let y : 0 + used ≡ used = omega arith in (
+      fs,
+      ts′,
+      pending′,
+      t′,
+      us′,
+      log-enters n b h fs field f [] (reading ts pending) (i .0) p
+          ∙ ap (λ z. then z (log-goes (log-from n b h) b fs f)) (go ∙ ap (λ z. log-entries (entries-in (f .size) - used) b (h .count) f z (reading ts′ pending′)) y)
+          ∙ ap (λ z. from-entry z b h fs f used (reading ts′ pending′)) x,
+      refl,
+      r,
+      w,
+    )
 log-walks (suc n) m b h fs field f (g ∷ gs) used ts pending t us es c i p l a k q o u =
     let N = entries-in (f .size) in
     let rest = log-row b (g ∷ gs) used ++ es in
@@ -195,12 +203,19 @@ log-walks (suc n) m b h fs field f (g ∷ gs) used ts pending t us es c i p l a 
     = entries-on N N b (h .count) f 0 ts pending t us rest a k (sym (append-assoc (entries-of b f 0 N) (log-row b (g ∷ gs) used) es) ∙ q) (omega arith) (omega arith) in
     let (front, ts″, pending″, t″, us″, walk, last, r′, w′)
     = log-walks n m b h (fs ++ (f ∷ [])) (log-next f) g gs used ts′ pending′ t′ us′ es (c .1) (i .1)
-    (subst (λ x. Pairwise Apart (header-span ∷ x)) (sym (append-assoc fs (f ∷ []) (g ∷ gs))) p) (omega arith) a′ (subst (λ z. length z ≤ h .count) (sym w) k) r o u in
-    (front, ts″, pending″, t″, us″,
-    log-enters n b h fs field f (g ∷ gs) (reading ts pending) (i .0) p
-    ∙ ap (λ z. then z (log-goes (log-from n b h) b fs f)) (go ∙ entries-over N b (h .count) f (0 + N) (reading ts′ pending′))
-    ∙ ap (λ x. log-from n b h (fs ++ (f ∷ [])) (log-next f) x (reading ts′ pending′)) (sym (c .0)) ∙ walk,
-    last ∙ append-assoc fs (f ∷ []) (g ∷ gs), r′, w′ ∙ w)
+    (subst (λ x. Pairwise Apart (header-span ∷ x)) (sym (append-assoc fs (f ∷ []) (g ∷ gs))) p) (omega arith) a′ (subst (λ z. length z ≤ h .count) (sym w) k) r o u in (
+      front,
+      ts″,
+      pending″,
+      t″,
+      us″,
+      log-enters n b h fs field f (g ∷ gs) (reading ts pending) (i .0) p
+          ∙ ap (λ z. then z (log-goes (log-from n b h) b fs f)) (go ∙ entries-over N b (h .count) f (0 + N) (reading ts′ pending′))
+          ∙ ap (λ x. log-from n b h (fs ++ (f ∷ [])) (log-next f) x (reading ts′ pending′)) (sym (c .0)) ∙ walk,
+      last ∙ append-assoc fs (f ∷ []) (g ∷ gs),
+      r′,
+      w′ ∙ w,
+    )
 
 -- a log that is right up to some entry is read up to there
 pub log-part-read : (b : List ℕ) (h : Header) (fs : List Span) (used : ℕ) (ts : List (List Entry)) (pending : List Entry) → Log-part b h fs used ts pending
@@ -224,11 +239,13 @@ log-part-read b h (f ∷ gs) used ts pending p s c =
     let (x, y) = nothing-left pending′ t′ us′ (sentinel pending) r in
     let v : ts′ ++ (pending′ ∷ []) ≡ ts ++ (pending ∷ [])
     = ap (λ z. ts′ ++ (z ∷ [])) (sym (append-nil pending′)) ∙ ap (λ z. ts′ ++ ((pending′ ++ z) ∷ [])) (sym x) ∙ ap (λ z. ts′ ++ ((pending′ ++ t′) ∷ z)) (sym y) ∙ w ∙ sym e in
-    let (d, g) = same-from-push ts′ ts pending′ pending v in
-    (front, last,
-    ap (λ x. log-from 2048 b h [] 0xA0 x (reading [] [])) (sym (p .chain .0)) ∙ walk
-    ∙ ap (λ z. from-entry (2048 - length (f ∷ gs)) b h front (last-of f gs) used (reading z pending′)) d
-    ∙ ap (λ z. from-entry (2048 - length (f ∷ gs)) b h front (last-of f gs) used (reading ts z)) g)
+    let (d, g) = same-from-push ts′ ts pending′ pending v in (
+      front,
+      last,
+      ap (λ x. log-from 2048 b h [] 0xA0 x (reading [] [])) (sym (p .chain .0)) ∙ walk
+          ∙ ap (λ z. from-entry (2048 - length (f ∷ gs)) b h front (last-of f gs) used (reading z pending′)) d
+          ∙ ap (λ z. from-entry (2048 - length (f ∷ gs)) b h front (last-of f gs) used (reading ts z)) g,
+    )
   where
     first-of-push : {X : Type 0} (xs : List X) (x : X) → (y : X) × (ys : List X) × (xs ++ (x ∷ []) ≡ y ∷ ys)
     first-of-push [] x = (x, [], refl)
