@@ -2,15 +2,14 @@
 -- Assumes nothing.
 use Prim.Native.Nat.{ℕ, zero, suc, _+_, _-_, _≤_, _<_}
 use mathlib.Core.Path.{_≡_, refl, sym, ap, _∙_, subst}
-use mathlib.Core.Logic.{inl, inr}
+use mathlib.Core.Logic.{inl}
 use mathlib.Core.Bool.{true, false}
-use mathlib.Core.List.{List, [], _∷_, _++_, map}
+use mathlib.Core.List.{List, [], _∷_, _++_}
 use native.Mathlib.Omega.{arith}
 use lib.Dec.{eqb}
 use lib.ListN.{length}
-use Rattle.std.specs.shelf.Lists.{Has}
 use Rattle.std.proofs.shelf.Lists.{append-nil, length-append}
-use Rattle.std.proofs.shelf.Tests.{cases-bool, cond-true, cond-false, eq-eqb}
+use Rattle.std.proofs.shelf.Tests.{cond-true, cond-false, eq-eqb}
 use Rattle.model.specs.declared.types.Span.{Span}
 use Rattle.model.specs.declared.types.Fault.{Fault}
 use Rattle.model.specs.declared.types.Header.{Header}
@@ -27,7 +26,7 @@ use Rattle.model.specs.Breaks.{Misplaced, Placed, First-breaks, Half-read, Rest
 use Rattle.model.specs.Breaks.First-breaks.{place as first-place, outside as first-outside, full as first-full, unmarked as first-unmarked, twice, unlisted}
 use Rattle.model.specs.Breaks.Rest-breaks.{node, place, unmarked as rest-unmarked}
 use Rattle.meaning.proofs.Places.{by-rule, misplaced-refused, full-refused, placed-passes}
-use Rattle.meaning.proofs.ListSteps.{mislabelled, from-node, marked-passes, passes-marked, taken-has, has-taken, first-none, first-step, later-none, later-step}
+use Rattle.meaning.proofs.ListSteps.{mislabelled, first-checks, from-node, marked-passes, passes-marked, not-had, has-taken, first-none, first-step, later-none, later-step}
 use Rattle.meaning.proofs.ReadList.{nodes-handed, list-walks}
 
 -- a node that breaks a rule
@@ -36,12 +35,6 @@ node-refused : (n : ℕ) (b : List ℕ) (id stop p : ℕ) (ns : List Node) → 1
 unfolding nodes-at
 node-refused zero b id stop p ns l h g = absurd (omega arith)
 node-refused (suc n) b id stop p ns l h g = rw (h, g)
-
-not-taken : (id : ℕ) (ls : List NodeList) → (Has (map (λ l. l .id) ls) id → ⊥) → taken id ls ≡ false
-not-taken id ls n = elim (cases-bool (taken id ls)) [
-  | inl e ↦ absurd (n (taken-has id ls e))
-  | inr e ↦ e
-]
 
 module _ (b : List ℕ) (h : Header) (log : Log) (ls : List NodeList) (first : Span) where
   abbrev before : List Span
@@ -53,12 +46,8 @@ module _ (b : List ℕ) (h : Header) (log : Log) (ls : List NodeList) (first : S
 
   -- its first fragment ---------------------------------------------------------------------------------------------------------
 
-  first-placed : (n field : ℕ) (e : Fault) → n ≡ 2048 - length before → Placed 36 (h .end) before first → ((a : Outcome NodeList) → unless (
-      (mislabelled b (owner b first) 0 first, fault 8 3 (first .start) 0)
-      ∷ (taken (owner b first) ls, fault 12 3 (first .start) (owner b first))
-      ∷ (eqb (count-in (log .transactions) (owner b first)) 0, fault 10 3 (first .start) (owner b first))
-      ∷ []
-      ) a ≡ refused e)
+  first-placed : (n field : ℕ) (e : Fault) → n ≡ 2048 - length before → Placed 36 (h .end) before first
+      → ((a : Outcome NodeList) → unless (first-checks b (count-in (log .transactions) (owner b first)) ls (owner b first) first) a ≡ refused e)
       → list-from n b (h .end) (count-in (log .transactions) (owner b first)) ls before (owner b first) field first [] [] ≡ refused e
   first-placed zero field e l p k = let room = p .room in absurd (omega arith)
   first-placed (suc n) field e l p k =
@@ -85,7 +74,7 @@ module _ (b : List ℕ) (h : Header) (log : Log) (ls : List NodeList) (first : S
       cond-false (mislabelled b (owner b first) 0 first) _ _ (marked-passes b (owner b first) 0 first m r) ∙ cond-true (taken (owner b first) ls) _ _ (has-taken (owner b first) ls t))
   first-breaks field e few (unlisted l p m r n c) =
       first-placed (2048 - length before) field (fault 10 3 (first .start) (owner b first)) refl p (λ a.
-      cond-false (mislabelled b (owner b first) 0 first) _ _ (marked-passes b (owner b first) 0 first m r) ∙ cond-false (taken (owner b first) ls) _ _ (not-taken (owner b first) ls n)
+      cond-false (mislabelled b (owner b first) 0 first) _ _ (marked-passes b (owner b first) 0 first m r) ∙ cond-false (taken (owner b first) ls) _ _ (not-had (owner b first) ls n)
       ∙ cond-true (eqb (count-in (log .transactions) (owner b first)) 0) _ _ (eq-eqb (count-in (log .transactions) (owner b first)) 0 c))
 
   -- the rest of it -------------------------------------------------------------------------------------------------------------
@@ -106,7 +95,7 @@ module _ (b : List ℕ) (h : Header) (log : Log) (ls : List NodeList) (first : S
         let short = half .short in
         let few = half .few in
         let long = length-append before (first ∷ gs) in
-        list-walks b (h .end) count ls before id (part .real) (not-taken id ls (half .new)) (omega arith) (2048 - length before) left field first gs [] [] ns q (part .spread) (part .inside) (part .marks)
+        list-walks b (h .end) count ls before id (part .real) (not-had id ls (half .new)) (omega arith) (2048 - length before) left field first gs [] [] ns q (part .spread) (part .inside) (part .marks)
         (subst (λ z. Pairwise Apart (header-span ∷ (z ++ (first ∷ gs)))) (sym (append-nil before)) (half .apart)) (inl (omega arith)) (omega arith)
 
     node-breaks : (field : ℕ) → hands-over (le 4 b q) (nodes-to last) q ≡ false → bad-node (le 4 b q) (nodes-to last) q ≡ true → whole id field ≡ refused (fault 9 3 q id)

@@ -1,10 +1,13 @@
-pub mod Growth
 pub mod Base
-pub mod Places
-pub mod ReadLog
-pub mod ListSteps
-pub mod ReadList
 pub mod Members
+pub mod Frames
+pub mod Local
+pub mod Growth
+pub mod Places
+pub mod Meant
+pub mod ListSteps
+pub mod ReadLog
+pub mod ReadList
 pub mod ReadQueue
 pub mod MeantOpens
 pub mod TellLog
@@ -15,6 +18,3 @@ pub mod OpensMeans
 pub mod BreakLog
 pub mod BreakList
 pub mod RefusedBreaks
-pub mod Frames
-pub mod Local
-pub mod Meant

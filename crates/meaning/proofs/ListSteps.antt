@@ -10,10 +10,10 @@ use lib.Dec.{eqb, ltb}
 use lib.ListN.{length}
 use Rattle.std.specs.shelf.Lists.{Has}
 use Rattle.std.proofs.shelf.Lists.{append-nil}
-use Rattle.std.proofs.shelf.Tests.{eqb-true, eq-eqb, or-cases, or-left, or-right}
+use Rattle.std.proofs.shelf.Tests.{cases-bool, eqb-true, eq-eqb, or-cases, or-left, or-right}
 use Rattle.std.proofs.shelf.Ways.{tells}
 use Rattle.model.specs.declared.types.Span.{Span}
-use Rattle.model.specs.Faults.{fault, Outcome, refused, unless, then}
+use Rattle.model.specs.Faults.{fault, Outcome, refused, Check, unless, then}
 use Rattle.model.specs.Nodes.{Node}
 use Rattle.model.specs.ListFragments.{owner, unmarked, sequence, nodes-from, nodes-to}
 use Rattle.model.specs.Section.{NodeList}
@@ -50,6 +50,12 @@ taken-has id ls e = has-from-in (map (λ (l : NodeList). l .id) ls) id (by ls e)
       | inr x ↦ inr (by ls x)
     ]
 
+pub not-had : (id : ℕ) (ls : List NodeList) → (Has (map (λ l. l .id) ls) id → ⊥) → taken id ls ≡ false
+not-had id ls n = elim (cases-bool (taken id ls)) [
+  | inl e ↦ absurd (n (taken-has id ls e))
+  | inr e ↦ e
+]
+
 pub has-taken : (id : ℕ) (ls : List NodeList) → Has (map (λ l. l .id) ls) id → taken id ls ≡ true
 has-taken id ls x = by ls (in-from-has (map (λ (l : NodeList). l .id) ls) id x)
   where
@@ -62,6 +68,14 @@ has-taken id ls x = by ls (in-from-has (map (λ (l : NodeList). l .id) ls) id x)
 abbrev pub from-node : List ℕ → ℕ → ℕ → List NodeList → List Span → ℕ → ℕ → List Span → Span → List Node → ℕ → Outcome NodeList
 from-node b end count ls before id n fs g ns q = then (nodes-at (count - length ns) b id (nodes-to g) q ns) (list-goes (list-from n b end count ls before id) b id g fs)
 
+-- the checks of a first fragment behind those of its place
+abbrev pub first-checks : List ℕ → ℕ → List NodeList → ℕ → Span → List Check
+first-checks b count ls id f =
+    (mislabelled b id 0 f, fault 8 3 (f .start) 0)
+    ∷ (taken id ls, fault 12 3 (f .start) id)
+    ∷ (eqb count 0, fault 10 3 (f .start) id)
+    ∷ []
+
 module _ (b : List ℕ) (end count : ℕ) (ls : List NodeList) (before : List Span) (id field : ℕ) (f : Span) where
   -- the nodes of the fragment f behind the fragments fs, and what follows them
   abbrev pub nodes-then : ℕ → List Span → List Node → Outcome NodeList
@@ -72,12 +86,7 @@ module _ (b : List ℕ) (end count : ℕ) (ls : List NodeList) (before : List Sp
   first-none = refl
 
   pub first-step : (n : ℕ) → list-from (suc n) b end count ls before id field f [] []
-      ≡ unless (place-checks 36 end 3 0 field before f) (unless (
-      (mislabelled b id 0 f, fault 8 3 (f .start) 0)
-      ∷ (taken id ls, fault 12 3 (f .start) id)
-      ∷ (eqb count 0, fault 10 3 (f .start) id)
-      ∷ []
-      ) (nodes-then n [] []))
+      ≡ unless (place-checks 36 end 3 0 field before f) (unless (first-checks b count ls id f) (nodes-then n [] []))
   unfolding list-from
   first-step n = rw (append-nil before)
 
