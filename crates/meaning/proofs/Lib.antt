@@ -4,7 +4,7 @@ pub mod Frames
 pub mod Local
 pub mod Growth
 pub mod Places
-pub mod Meant
+pub mod GoodNodes
 pub mod ListSteps
 pub mod ReadLog
 pub mod ReadList

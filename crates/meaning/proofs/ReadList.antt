@@ -22,7 +22,7 @@ use Rattle.model.specs.ListFragments.{nodes-from, nodes-to}
 use Rattle.model.specs.Section.{Log, NodeList, last-of, count-in, first-of}
 use Rattle.model.specs.OpenedLists.{counted, uncounted, nodes-at, taken, list-from, list-goes, list-checks}
 use Rattle.model.specs.Means.{Apart, Pairwise, Inside, Nodes, Spread, within, across, Marked, Numbered, Stands}
-use Rattle.meaning.proofs.Meant.{good-stays, good-passes}
+use Rattle.meaning.proofs.GoodNodes.{good-stays, good-passes}
 use Rattle.meaning.proofs.Base.{Clean, unless-clean, inside-passes, apart-overlaps, apart-before}
 use Rattle.meaning.proofs.ListSteps.{nodes-then, from-node, marked-passes}
 

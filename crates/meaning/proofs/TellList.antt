@@ -27,7 +27,7 @@ use Rattle.model.specs.Breaks.{First-breaks, Half-read, Rest-breaks}
 use Rattle.model.specs.Breaks.First-breaks.{place as first-place, unmarked as first-unmarked, twice, unlisted}
 use Rattle.model.specs.Breaks.Rest-breaks.{node, place, unmarked as rest-unmarked}
 use Rattle.meaning.proofs.Base.{pairs-push}
-use Rattle.meaning.proofs.Meant.{passes}
+use Rattle.meaning.proofs.GoodNodes.{passes}
 use Rattle.meaning.proofs.Places.{place-tells, full-tells}
 use Rattle.meaning.proofs.Growth.{last-push, part-push, part-on}
 use Rattle.meaning.proofs.ListSteps.{mislabelled, nodes-then, marked-passes, passes-marked, taken-has, has-taken, first-none, first-step, later-none, later-step}
