@@ -26,7 +26,9 @@ use Rattle.meaning.proofs.Base.{all-front, pairs-split, apart-back, references,
 use Rattle.meaning.proofs.Members.{flat-append}
 use Rattle.commits.specs.Around.{Around}
 use Rattle.commits.specs.Body.{Right, Body, Tied, with-one, with-fragment, up-to}
-use Rattle.commits.proofs.Rows.{all-between, all-both, pair-between, pair-instead, all-flat, flat-all, flat-instead, last-push}
+use Rattle.meaning.proofs.Members.{all-flat, flat-all}
+use Rattle.meaning.proofs.Growth.{last-push}
+use Rattle.commits.proofs.Rows.{all-between, all-both, pair-between, pair-instead, flat-instead}
 use Rattle.commits.proofs.PartKept.{part-kept, ahead-other}
 use Rattle.commits.proofs.NodeAdded.{Made, fits-list, spill-list, spilt}
 use Rattle.commits.proofs.Around.{Kept, other-same}

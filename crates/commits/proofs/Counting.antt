@@ -20,7 +20,8 @@ use Rattle.model.specs.Means.{Pairwise, Counts-lists, Rising}
 use Rattle.model.specs.Layouts.{member, touch}
 use Rattle.meaning.proofs.Base.{all-front, pairs-split}
 use Rattle.commits.proofs.Ties.{map-instead}
-use Rattle.commits.proofs.Rows.{all-both, pair-between, flat-push}
+use Rattle.meaning.proofs.Members.{flat-push}
+use Rattle.commits.proofs.Rows.{all-both, pair-between}
 
 -- touched IDs --------------------------------------------------------------------------------------------------------
 

@@ -10,7 +10,7 @@ use lib.Dec.{eqb, ltb, leb}
 use lib.ListN.{length}
 use Rattle.std.specs.shelf.Lists.{All}
 use Rattle.std.proofs.shelf.Lists.{append-assoc, append-nil}
-use Rattle.std.proofs.shelf.Tests.{cases-bool}
+use Rattle.std.proofs.shelf.Tests.{cases-bool, cond-both}
 use Rattle.std.proofs.shelf.Ways.{tells}
 use Rattle.std.proofs.shelf.Elements.{all-append, all-weaker}
 use Rattle.model.specs.declared.types.Entry.{Entry}
@@ -43,12 +43,10 @@ fair id e = (grind (arith, tells), grind (arith, tells), grind (arith, tells))
 abbrev Few-counts : List Tail → Type 0
 Few-counts ts = All (λ t. t .count < 2 ^ 32) ts
 
-counts-all : (t : Tail) (ts : List Tail) → t .count < 2 ^ 32 → Few-counts ts → Few-counts (with-tail t ts)
-counts-all t [] h a = tt
-counts-all t (u ∷ ts) h (p, a) = elim (cases-bool (eqb (u .id) (t .id))) [
-  | inl e ↦ rw e (h, counts-all t ts h a)
-  | inr e ↦ rw e (p, counts-all t ts h a)
-]
+-- what holds of each tail and of the changed one
+pub tails-with : (P : Tail → Type 0) (t : Tail) (ts : List Tail) → P t → All P ts → All P (with-tail t ts)
+tails-with P t [] p a = tt
+tails-with P t (u ∷ us) p a = (cond-both (eqb (u .id) (t .id)) t u P (λ e. p) (λ e. a .0), tails-with P t us p (a .1))
 
 counts-with : (t : Tail) (ts : List Tail) → find-tail (with-tail t ts) (t .id) .count < 2 ^ 32 → Few-counts ts → Few-counts (with-tail t ts)
 unfolding find-tail
@@ -57,7 +55,7 @@ counts-with t (u ∷ ts) h (p, a) = elim (cases-bool (eqb (u .id) (t .id))) [
   | inl e ↦
       let f : eqb (t .id) (t .id) ≡ true = grind (arith, tells) in
       let k : t .count < 2 ^ 32 = rw (e, f) at h in
-      rw e (k, counts-all t ts k a)
+      rw e (k, tails-with (λ t. t .count < 2 ^ 32) t ts k a)
   | inr e ↦ rw e (p, counts-with t ts (rw (e, e) at h) a)
 ]
 

@@ -72,14 +72,18 @@ fields c count end guid generation l g =
       between = λ i x y. s1′ i x y ∙ t2 i (omega arith) y;
     }
 
--- the bytes behind the first 512 stay, and so does the length
+-- the write has 512 bytes
+pub head-length : (b : List ℕ) (h : Header) (end : ℕ) (guid : List ℕ) → 1024 ≤ length b → length guid ≡ 16 → length (header-write b h end guid .new) ≡ 512
+unfolding applied
+head-length b h end guid l g = fields (take 512 b) (h .count + 1) end guid (h .generation + 1) (length-take 512 b ∙ omega arith) g .whole
+
+-- the bytes behind them stay, and so does the length
 pub head-rest : (b : List ℕ) (h : Header) (end : ℕ) (guid : List ℕ) → 1024 ≤ length b → length guid ≡ 16
     → (length (applied b (header-write b h end guid ∷ [])) ≡ length b) × ((hi : ℕ) → Same b (applied b (header-write b h end guid ∷ [])) 512 hi)
 unfolding applied
 head-rest b h end guid l g =
-    let t : length (take 512 b) ≡ 512 = length-take 512 b ∙ omega arith in
-    let f = fields (take 512 b) (h .count + 1) end guid (h .generation + 1) t g in
-    (length-written b 0 _ (omega arith) ∙ omega (arith, f .whole), λ hi. same-written b 0 _ 512 hi (omega arith) (inr (omega (arith, f .whole))))
+    let w = head-length b h end guid l g in
+    (length-written b 0 _ (omega arith) ∙ omega arith, λ hi. same-written b 0 _ 512 hi (omega arith) (inr (omega arith)))
 
 front-at : (b n : List ℕ) (i : ℕ) → i < length n → getD (written b 0 n) i 0 ≡ getD n i 0
 front-at b n i l = written-at b 0 n i (omega arith) (omega arith) (omega arith) ∙ ap (λ k. getD n k 0) (omega arith)

@@ -21,7 +21,7 @@ use Rattle.model.specs.Headers.{header-span}
 use Rattle.model.specs.Nodes.{Node}
 use Rattle.model.specs.ListFragments.{nodes-from, nodes-to, new-fragment}
 use Rattle.model.specs.Section.{NodeList, Section, last-of, list-fragments, first-of}
-use Rattle.model.specs.Means.{Pairwise, Spread, within, across}
+use Rattle.model.specs.Means.{Pairwise}
 use Rattle.model.specs.Layouts.{Tail, tail, Layout, tail-of, member, touch, find-tail, with-tail, ending-at, more-fragments, touching}
 use Rattle.model.specs.Saving.{Plan, with-node, fitting, spilling}
 use Rattle.model.specs.Laws.{last-fragment}
@@ -30,7 +30,8 @@ use Rattle.commits.specs.Body.{Right, Body, with-one, with-fragment, up-to}
 use Rattle.commits.specs.Laid.{Laid}
 use Rattle.commits.proofs.Sizes.{length-new-fragment}
 use Rattle.commits.proofs.Store.{applied-row}
-use Rattle.commits.proofs.Rows.{flat-instead, last-push}
+use Rattle.meaning.proofs.Growth.{last-push, spread-fragment}
+use Rattle.commits.proofs.Rows.{flat-instead}
 use Rattle.commits.proofs.NodeAdded.{Made, ended, spilt}
 use Rattle.commits.proofs.Bodies.{body-fits, body-spill, row-old}
 use Rattle.commits.proofs.Around.{Kept}
@@ -148,10 +149,6 @@ applied-spill : (b : List ℕ) (w : Write) (ws : List Write) (v : Write) → app
 unfolding applied
 applied-spill b w ws v = applied-row (written b (w .place) (w .new)) ws (v ∷ [])
 
-spread-some : (b : List ℕ) {fs : List Span} {ns : List Node} {q : ℕ} → Spread b fs ns q → 1 ≤ length fs
-spread-some b (within h) = omega arith
-spread-some b (across ns ms p h o e t u) = omega arith
-
 -- how many fragments there are, of which the list has some
 count-old : (gs : List Span) (pre : List NodeList) (l : NodeList) (post : List NodeList)
     → length (gs ++ list-fragments (pre ++ (l ∷ post))) ≡ length gs + (length (list-fragments pre) + length (l .fragments)) + length (list-fragments post)
@@ -178,7 +175,7 @@ pushed-spills c s y pre l post new n d a x1 x2 x3 =
     let lp : length (nf ++ pad) ≡ length nf + length pad = length-append nf pad in
     let l′ : NodeList = with-fragment l fresh (n (E + 16)) (E + 16 + length new) in
     let (r0, r1) = all-front (Right c h) pre (l ∷ post) (d .body .lists) in
-    let some = spread-some c (r1 .0 .part .spread) in
+    let some = spread-fragment c (r1 .0 .part .spread) in
     let (u, v) = all-front (λ m. m .id ≤ y .highest) pre (l ∷ post) (d .known) in
     let idk = v .0 in
     let c1 = count-old gs pre l post in
@@ -219,7 +216,7 @@ node-pushed c s y pre l post new n d a x1 x2 x3 e = elim (cases-bool (leb (l .fr
   | inl f ↦ subst (λ p. Pushed c s y n pre l post p) (sym (with-fits y (l .id) new (tail-of l) e f)) (pushed-fits c s y pre l post new n d a (grind (arith, tells)))
   | inr f ↦
       let (r0, r1) = all-front (Right c (up-to (s .header) (y .end))) pre (l ∷ post) (d .body .lists) in
-      let some = spread-some c (r1 .0 .part .spread) in
+      let some = spread-fragment c (r1 .0 .part .spread) in
       let k : length (l .fragments) ≡ length (l .fragments) - 1 + 1 = omega arith in
       subst (λ p. Pushed c s y n pre l post p) (sym (with-spills y (l .id) new (tail-of l) e f))
       (subst (λ k. Pushed c s y n pre l post (spilling-at y (l .id) new (tail-of l) k)) k (pushed-spills c s y pre l post new n d a x1 x2 x3))

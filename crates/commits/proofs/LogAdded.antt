@@ -14,13 +14,15 @@ use Rattle.model.specs.declared.types.Header.{Header}
 use Rattle.model.specs.Bytes.{le, Same}
 use Rattle.model.specs.References.{span, end-of, span-at}
 use Rattle.model.specs.Headers.{header-span}
-use Rattle.model.specs.LogFragments.{entry-at, entries-in, entry-place, log-next}
+use Rattle.model.specs.LogFragments.{entries-in, log-next}
 use Rattle.model.specs.Section.{Log, flat, last-of}
 use Rattle.model.specs.Means.{Apart, Pairwise, Inside, Chain, entries-of, log-row, closed, Counts-lists, Rising, Logs}
 use Rattle.meaning.proofs.Frames.{le-in}
 use Rattle.meaning.proofs.Local.{span-local}
-use Rattle.meaning.proofs.Members.{flat-append}
-use Rattle.commits.proofs.Rows.{pair-between, last-push, flat-push}
+use Rattle.meaning.proofs.Members.{flat-push}
+use Rattle.meaning.proofs.Growth.{last-push, row-more, row-next, chain-next, rising-row}
+use Rattle.meaning.proofs.ReadLog.{closed-push}
+use Rattle.commits.proofs.Rows.{pair-between}
 
 -- frames -----------------------------------------------------------------------------------------------------------
 
@@ -61,43 +63,7 @@ chain-local b c end r (f ∷ (g ∷ gs)) used ((x, y), i) (s, a) (e, k) =
     let q : span-at b (log-next f) ≡ span-at c (log-next f) = span-local b c (f .start) (end-of f) (log-next f) s (omega arith) (omega arith) in
     (e, subst (λ z. Chain (λ f. span-at c (log-next f)) z (g ∷ gs)) q (chain-local b c end (span-at b (log-next f)) (g ∷ gs) used i a k))
 
--- entries ----------------------------------------------------------------------------------------------------------------
-
-entries-more : (b : List ℕ) (f : Span) (i n m : ℕ) → entries-of b f i (n + m) ≡ entries-of b f i n ++ entries-of b f (i + n) m
-entries-more b f i zero m =
-    let x : 0 + m ≡ m = omega arith in
-    let y : i + 0 ≡ i = omega arith in
-    rw (x, y)
-entries-more b f i (suc n) m =
-    let x : suc n + m ≡ suc (n + m) = omega arith in
-    let y : i + suc n ≡ i + 1 + n = omega arith in
-    rw (x, y) (ap (λ z. entry-at b (entry-place f i) ∷ z) (entries-more b f (i + 1) n m))
-
-row-more : (b : List ℕ) (d : Span) (f : Span) (fs : List Span) (used m : ℕ) → log-row b (f ∷ fs) (used + m) ≡ log-row b (f ∷ fs) used ++ entries-of b (last-of d (f ∷ fs)) used m
-row-more b d f [] used m = entries-more b f 0 used m ∙ (let x : 0 + used ≡ used = omega arith in rw x)
-row-more b d f (g ∷ gs) used m =
-    ap (λ z. entries-of b f 0 (entries-in (f .size)) ++ z) (row-more b f g gs used m)
-    ∙ sym (append-assoc (entries-of b f 0 (entries-in (f .size))) (log-row b (g ∷ gs) used) (entries-of b (last-of f (g ∷ gs)) used m))
-
-row-next : (b : List ℕ) (d : Span) (f : Span) (fs : List Span) (x : Span) (used : ℕ) → log-row b ((f ∷ fs) ++ (x ∷ [])) used ≡ log-row b (f ∷ fs) (entries-in (last-of d (f ∷ fs) .size)) ++ entries-of b x 0 used
-row-next b d f [] x used = refl
-row-next b d f (g ∷ gs) x used =
-    ap (λ z. entries-of b f 0 (entries-in (f .size)) ++ z) (row-next b f g gs x used)
-    ∙ sym (append-assoc (entries-of b f 0 (entries-in (f .size))) (log-row b (g ∷ gs) (entries-in (last-of f (g ∷ gs) .size))) (entries-of b x 0 used))
-
-chain-next : (b : List ℕ) (d r : Span) (f : Span) (fs : List Span) (x : Span) → Chain (λ f. span-at b (log-next f)) r (f ∷ fs) → span-at b (log-next (last-of d (f ∷ fs))) ≡ x
-    → Chain (λ f. span-at b (log-next f)) r ((f ∷ fs) ++ (x ∷ []))
-chain-next b d r f [] x (e, k) q = (e, (sym q, tt))
-chain-next b d r f (g ∷ gs) x (e, k) q = (e, chain-next b f (span-at b (log-next f)) g gs x k q)
-
 -- transactions -----------------------------------------------------------------------------------------------------------
-
-rising-row : (before xs ys : List Entry) → Rising before xs → Rising (before ++ xs) ys → Rising before (xs ++ ys)
-rising-row before [] ys a c = subst (λ z. Rising z ys) (append-nil before) c
-rising-row before (x ∷ xs) ys (p, a) c = (p, rising-row (before ++ (x ∷ [])) xs ys a (subst (λ z. Rising z ys) (sym (append-assoc before (x ∷ []) xs)) c))
-
-closed-push : (ts : List (List Entry)) (t : List Entry) → flat (map closed (ts ++ (t ∷ []))) ≡ flat (map closed ts) ++ closed t
-closed-push ts t = flat-append closed ts (t ∷ []) ∙ ap (λ z. flat (map closed ts) ++ z) (append-nil (closed t))
 
 rising-push : (ts : List (List Entry)) (t : List Entry) → Rising [] (flat ts ++ []) → Rising (flat ts) t → Rising [] (flat (ts ++ (t ∷ [])) ++ [])
 rising-push ts t a c =

@@ -32,7 +32,8 @@ use Rattle.commits.proofs.Sizes.{length-span-bytes, length-entry-bytes, length
 use Rattle.commits.proofs.Store.{length-written, same-written, stored-written, stored-same, stored-front, span-stored}
 use Rattle.commits.proofs.FragmentBack.{Small, entries-back, log-fragment-back}
 use Rattle.commits.proofs.HeadBack.{headed}
-use Rattle.commits.proofs.Rows.{all-both, all-between, pair-between, last-all}
+use Rattle.meaning.proofs.Growth.{last-all}
+use Rattle.commits.proofs.Rows.{all-both, all-between, pair-between}
 use Rattle.commits.proofs.Bodies.{all-by-end, past-apart}
 use Rattle.commits.proofs.LogAdded.{Log-agree, Follows, log-fits, log-spills, log-some, split-log, next-inside}
 use Rattle.commits.proofs.Adds.{Drafted, Fine}

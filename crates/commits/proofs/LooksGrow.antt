@@ -31,7 +31,7 @@ use Rattle.commits.proofs.HeadBack.{headed}
 use Rattle.commits.proofs.Counting.{latest-absent, latest-row}
 use Rattle.commits.proofs.Drafts.{blank-drafted}
 use Rattle.commits.proofs.CommitReads.{taken-in, nodes-in, Read-after, read-after}
-use Rattle.commits.proofs.Rows.{flat-join}
+use Rattle.meaning.proofs.Members.{flat-join}
 use Rattle.commits.proofs.SeenAlike.{Alike, seen-alike}
 
 -- counts at a k ------------------------------------------------------------------------------------------------------------

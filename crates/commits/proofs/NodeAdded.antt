@@ -25,7 +25,8 @@ use Rattle.commits.proofs.Sizes.{length-digits, length-span-bytes, length-plai
 use Rattle.commits.proofs.Store.{length-written, same-written, stored-written, stored-same, stored-front, span-stored}
 use Rattle.commits.proofs.NodeBack.{Fair, plain-of, referring-of, plain-good, referring-good, terminator-hands, narrow-hands}
 use Rattle.commits.proofs.FragmentBack.{fragment-back}
-use Rattle.commits.proofs.PartKept.{part-kept, part-push, part-spill, ahead-own, spread-ends}
+use Rattle.commits.proofs.PartKept.{part-kept, ahead-own, spread-ends}
+use Rattle.meaning.proofs.Growth.{part-push, part-spill}
 use Rattle.commits.proofs.Around.{around-none, around-in, around-past}
 
 -- bytes that are a node, which depends on its place only

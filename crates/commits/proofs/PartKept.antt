@@ -1,59 +1,58 @@
 -- A list as far as it is right stays so, where no byte of it is written.
 -- Assumes nothing.
-use Prim.Native.Nat.{ℕ, suc, _+_, _-_, _≤_}
+use Prim.Native.Nat.{ℕ, _+_, _-_, _≤_}
 use mathlib.Core.Path.{_≡_, refl, sym, ap, _∙_}
 use mathlib.Core.Logic.{inl, inr}
-use mathlib.Core.Bool.{true}
-use mathlib.Core.List.{List, [], _∷_, _++_}
-use native.Mathlib.Nat.{add-zero}
+use mathlib.Core.List.{List, [], _∷_}
 use native.Mathlib.Omega.{arith}
-use lib.ListN.{length}
 use Rattle.std.specs.shelf.Lists.{All}
-use Rattle.std.proofs.shelf.Lists.{append-assoc}
 use Rattle.model.specs.declared.types.Span.{Span}
 use Rattle.model.specs.declared.types.Header.{Header}
-use Rattle.model.specs.Bytes.{le, Same}
-use Rattle.model.specs.References.{span, end-of, span-at}
-use Rattle.model.specs.Nodes.{Node, hands-over}
+use Rattle.model.specs.Bytes.{Same}
+use Rattle.model.specs.References.{span, end-of}
+use Rattle.model.specs.Nodes.{Node}
 use Rattle.model.specs.ListFragments.{nodes-from, nodes-to}
 use Rattle.model.specs.Section.{last-of}
-use Rattle.model.specs.Means.{Apart, Pairwise, Inside, Good, Nodes, Spread, within, across, Marked, Numbered, List-part}
+use Rattle.model.specs.Means.{Apart, Pairwise, Inside, Spread, within, across, Numbered, List-part}
 use Rattle.meaning.proofs.Frames.{le-in}
 use Rattle.meaning.proofs.Local.{Agree, spread-local, nodes-inside, nodes-reach}
 use Rattle.meaning.proofs.Base.{apart-back}
 use Rattle.commits.specs.Around.{Around, Ahead}
-use Rattle.commits.proofs.Rows.{last-all}
-use Rattle.commits.proofs.Around.{other-same}
+use Rattle.meaning.proofs.Growth.{last-all}
+use Rattle.commits.proofs.Around.{Kept, other-same}
 
 -- frames -----------------------------------------------------------------------------------------------------------
 
-pub marked-same : (b c : List ℕ) (id number : ℕ) (f : Span) → 36 ≤ f .size → Same b c (f .start) (f .start + 16) → Same b c (end-of f - 8) (end-of f) → Marked b id number f → Marked c id number f
-marked-same b c id number f h s t m = record {
-  first = sym (le-in 8 b c (f .start) (f .start + 16) (f .start) s (omega arith) (omega arith)) ∙ m .first;
-  last = sym (le-in 8 b c (end-of f - 8) (end-of f) (end-of f - 8) t (omega arith) (omega arith)) ∙ m .last;
-  list = sym (le-in 4 b c (f .start) (f .start + 16) (f .start + 8) s (omega arith) (omega arith)) ∙ m .list;
-  sequence-number = sym (le-in 4 b c (f .start) (f .start + 16) (f .start + 12) s (omega arith) (omega arith)) ∙ m .sequence-number;
-}
+-- both ends of a fragment are the same: its first 16 bytes, and its last 8
+abbrev pub Ends-same : List ℕ → List ℕ → Span → Type 0
+Ends-same b c f = Same b c (f .start) (f .start + 16) × Same b c (end-of f - 8) (end-of f)
 
-marked-other : (b c : List ℕ) (end : ℕ) (g : Span) (lo : ℕ) → Around b c end g lo 16 8 → (id number : ℕ) (f : Span) → Inside 36 end f → Apart g f → Marked b id number f → Marked c id number f
-marked-other b c end g lo o id number f (h, k) a m =
-    let s = other-same b c end g lo 16 8 o f a k in
-    marked-same b c id number f h (λ i l j. s i l (omega arith)) (λ i l j. s i (omega arith) j) m
+pub numbered-same : (b c : List ℕ) (end id i : ℕ) (fs : List Span) → All (Inside 36 end) fs → All (Ends-same b c) fs → Numbered b id i fs → Numbered c id i fs
+numbered-same b c end id i [] a k m = tt
+numbered-same b c end id i (f ∷ fs) ((x, y), a) ((s, t), k) (m, ms) = (
+  record {
+    first = sym (le-in 8 b c (f .start) (f .start + 16) (f .start) s (omega arith) (omega arith)) ∙ m .first;
+    last = sym (le-in 8 b c (end-of f - 8) (end-of f) (end-of f - 8) t (omega arith) (omega arith)) ∙ m .last;
+    list = sym (le-in 4 b c (f .start) (f .start + 16) (f .start + 8) s (omega arith) (omega arith)) ∙ m .list;
+    sequence-number = sym (le-in 4 b c (f .start) (f .start + 16) (f .start + 12) s (omega arith) (omega arith)) ∙ m .sequence-number;
+  },
+  numbered-same b c end id (i + 1) fs a k ms,
+)
 
-marked-own : (b c : List ℕ) (end : ℕ) (g : Span) (lo : ℕ) → Around b c end g lo 16 8 → (id number : ℕ) → Inside 36 end g → Marked b id number g → Marked c id number g
-marked-own b c end g lo o id number (h, k) m =
-    marked-same b c id number g h
-    (λ i l j. o .kept i (omega arith) (inl (omega (arith, o .from))))
-    (λ i l j. o .kept i (omega arith) (inr (omega arith))) m
+pub kept-ends : (b c : List ℕ) (f : Span) → 36 ≤ f .size → Kept b c f → Ends-same b c f
+kept-ends b c f h s = (λ i l j. s i l (omega arith), λ i l j. s i (omega arith) j)
 
-pub numbered-kept : (b c : List ℕ) (end : ℕ) (g : Span) (lo : ℕ) → Around b c end g lo 16 8 → (id i : ℕ) (fs : List Span) (q : ℕ) → All (Inside 36 end) fs → Ahead g lo fs q
-    → Numbered b id i fs → Numbered c id i fs
-numbered-kept b c end g lo o id i [] q a h m = tt
-numbered-kept b c end g lo o id i (f ∷ []) q (a, as′) (inl (e, l)) (m, ms) = (rw e (marked-own b c end g lo o id i (rw e at a) (rw e at m)), tt)
-numbered-kept b c end g lo o id i (f ∷ []) q (a, as′) (inr h) (m, ms) = (marked-other b c end g lo o id i f a h m, tt)
-numbered-kept b c end g lo o id i (f ∷ (f′ ∷ fs)) q (a, as′) (h, hs) (m, ms) = (marked-other b c end g lo o id i f a h m, numbered-kept b c end g lo o id (i + 1) (f′ ∷ fs) q as′ hs ms)
+ends-kept : (b c : List ℕ) (end : ℕ) (g : Span) (lo : ℕ) → Around b c end g lo 16 8 → (fs : List Span) (q : ℕ) → All (Inside 36 end) fs → Ahead g lo fs q → All (Ends-same b c) fs
+ends-kept b c end g lo o [] q a h = tt
+ends-kept b c end g lo o (f ∷ []) q ((x, y), as′) (inl (e, l)) =
+    let from = o .from in
+    let start : f .start ≡ g .start = ap (λ (x : Span). x .start) e in
+    let size : f .size ≡ g .size = ap (λ (x : Span). x .size) e in
+    (((λ i m k. o .kept i (omega arith) (inl (omega arith))), λ i m k. o .kept i (omega arith) (inr (omega arith))), tt)
+ends-kept b c end g lo o (f ∷ []) q ((x, y), as′) (inr h) = (kept-ends b c f x (other-same b c end g lo 16 8 o f h y), tt)
+ends-kept b c end g lo o (f ∷ (f′ ∷ fs)) q ((x, y), as′) (h, hs) = (kept-ends b c f x (other-same b c end g lo 16 8 o f h y), ends-kept b c end g lo o (f′ ∷ fs) q as′ hs)
 
-pub agree-kept : (b c : List ℕ) (end : ℕ) (g : Span) (lo : ℕ) → Around b c end g lo 16 8 → (fs : List Span) (q : ℕ) → All (Inside 36 end) fs → q ≤ end-of (last-of (span 0 0) fs) → Ahead g lo fs q → Agree b c fs q
+agree-kept : (b c : List ℕ) (end : ℕ) (g : Span) (lo : ℕ) → Around b c end g lo 16 8 → (fs : List Span) (q : ℕ) → All (Inside 36 end) fs → q ≤ end-of (last-of (span 0 0) fs) → Ahead g lo fs q → Agree b c fs q
 agree-kept b c end g lo o [] q a u h = tt
 agree-kept b c end g lo o (f ∷ []) q ((x, y), as′) u (inl (e, l)) =
     ((λ i m k. o .kept i (omega arith) (inl (omega arith))), omega (arith, o .before), omega (arith, o .after))
@@ -82,7 +81,7 @@ part-kept b c h h′ g lo id fs ns q o k a p =
     let (x, y, z, w) = spread-ends b (h .end) (span 0 0) (p .spread) (p .inside) in
     record {
       inside = inside-more (h .end) (h′ .end) fs k (p .inside);
-      marks = numbered-kept b c (h .end) g lo o id 0 fs q (p .inside) a (p .marks);
+      marks = numbered-same b c (h .end) id 0 fs (p .inside) (ends-kept b c (h .end) g lo o fs q (p .inside) a) (p .marks);
       real = p .real;
       spread = spread-local b c (p .spread) (agree-kept b c (h .end) g lo o fs q (p .inside) (omega arith) a);
     }
@@ -98,46 +97,3 @@ pub ahead-own : (d : Span) (fs : List Span) (q : ℕ) → Pairwise Apart fs → 
 ahead-own d [] q a = tt
 ahead-own d (f ∷ []) q a = inl (refl, omega arith)
 ahead-own d (f ∷ (f′ ∷ fs)) q (a, as′) = (apart-back f (last-of f (f′ ∷ fs)) (last-all (Apart f) f f′ fs a), ahead-own f (f′ ∷ fs) q as′)
-
--- one node more ------------------------------------------------------------------------------------------------------------
-
-nodes-push : (b : List ℕ) (stop p : ℕ) (ns : List Node) (q : ℕ) (n : Node) → Nodes b stop p ns q → Good b stop q n → Nodes b stop p (ns ++ (n ∷ [])) (q + n .size)
-nodes-push b stop p [] q n h g = rw h (g, refl)
-nodes-push b stop p (m ∷ ns) q n (x, h) g = (x, nodes-push b stop (p + m .size) ns q n h g)
-
--- it fits behind the last
-pub spread-push : (b : List ℕ) (d : Span) {fs : List Span} {ns : List Node} {q : ℕ} (n : Node) → Spread b fs ns q → Good b (nodes-to (last-of d fs)) q n → Spread b fs (ns ++ (n ∷ [])) (q + n .size)
-spread-push b d n (within {f = f} {ns = ns} {q = q} h) g = within (nodes-push b (nodes-to f) (nodes-from f) ns q n h g)
-spread-push b d n (across {f = f} ns ms p h o e t u) g =
-    across ns (ms ++ (n ∷ [])) p h o e (spread-push b f n t g) (ap (λ z. z ++ (n ∷ [])) u ∙ append-assoc ns ms (n ∷ []))
-
--- it goes into a new fragment
-pub spread-spill : (b : List ℕ) (d : Span) {fs : List Span} {ns : List Node} {q : ℕ} (fresh : Span) (n : Node) → Spread b fs ns q → hands-over (le 4 b q) (nodes-to (last-of d fs)) q ≡ true
-    → fresh ≡ span-at b (nodes-to (last-of d fs)) → Good b (nodes-to fresh) (nodes-from fresh) n → Spread b (fs ++ (fresh ∷ [])) (ns ++ (n ∷ [])) (nodes-from fresh + n .size)
-spread-spill b d fresh n (within {f = f} {ns = ns} {q = q} h) o e g = across ns (n ∷ []) q h o e (within (g, refl)) refl
-spread-spill b d fresh n (across {f = f} ns ms p h o e t u) o′ e′ g =
-    across ns (ms ++ (n ∷ [])) p h o e (spread-spill b f fresh n t o′ e′ g) (ap (λ z. z ++ (n ∷ [])) u ∙ append-assoc ns ms (n ∷ []))
-
-numbered-push : (b : List ℕ) (id i : ℕ) (fs : List Span) (f : Span) → Numbered b id i fs → Marked b id (i + length fs) f → Numbered b id i (fs ++ (f ∷ []))
-numbered-push b id i [] f h m = (rw add-zero at m, tt)
-numbered-push b id i (g ∷ fs) f (x, h) m = let e : i + suc (length fs) ≡ i + 1 + length fs = omega arith in (x, numbered-push b id (i + 1) fs f h (rw e at m))
-
-inside-push : (end : ℕ) (fs : List Span) (f : Span) → All (Inside 36 end) fs → Inside 36 end f → All (Inside 36 end) (fs ++ (f ∷ []))
-inside-push end [] f a x = (x, tt)
-inside-push end (g ∷ fs) f (y, a) x = (y, inside-push end fs f a x)
-
--- a list's part with one node more
-pub part-push : (b : List ℕ) (h : Header) (id : ℕ) (fs : List Span) (ns : List Node) (q : ℕ) (n : Node) → List-part b h id fs ns q → Good b (nodes-to (last-of (span 0 0) fs)) q n
-    → List-part b h id fs (ns ++ (n ∷ [])) (q + n .size)
-part-push b h id fs ns q n p g = record { inside = p .inside; marks = p .marks; real = p .real; spread = spread-push b (span 0 0) n (p .spread) g }
-
-pub part-spill : (b : List ℕ) (h : Header) (id : ℕ) (fs : List Span) (ns : List Node) (q : ℕ) (fresh : Span) (n : Node) → List-part b h id fs ns q
-    → hands-over (le 4 b q) (nodes-to (last-of (span 0 0) fs)) q ≡ true → fresh ≡ span-at b (nodes-to (last-of (span 0 0) fs)) → Good b (nodes-to fresh) (nodes-from fresh) n
-    → Inside 36 (h .end) fresh → Marked b id (length fs) fresh
-    → List-part b h id (fs ++ (fresh ∷ [])) (ns ++ (n ∷ [])) (nodes-from fresh + n .size)
-part-spill b h id fs ns q fresh n p o e g i m = record {
-  inside = inside-push (h .end) fs fresh (p .inside) i;
-  marks = numbered-push b id 0 fs fresh (p .marks) (let z : 0 + length fs ≡ length fs = omega arith in rw z m);
-  real = p .real;
-  spread = spread-spill b (span 0 0) fresh n (p .spread) o e g;
-}

@@ -10,25 +10,21 @@ use Rattle.std.proofs.shelf.Lists.{ext-getD, length-take, getD-take}
 use Rattle.std.proofs.shelf.Elements.{all-weaker}
 use Rattle.model.specs.declared.types.Span.{Span}
 use Rattle.model.specs.declared.types.Header.{Header}
-use Rattle.model.specs.Bytes.{Same}
+use Rattle.model.specs.Bytes.{piece, Same}
 use Rattle.model.specs.References.{span, end-of}
 use Rattle.model.specs.Headers.{header-span, header-at}
 use Rattle.model.specs.LogFragments.{entries-in}
 use Rattle.model.specs.Section.{Log, NodeList, last-of, list-fragments}
-use Rattle.model.specs.Means.{Inside, Headed, Logs, Numbered, data-spans}
+use Rattle.model.specs.Means.{Inside, Headed, Logs, data-spans}
 use Rattle.model.specs.Committing.{header-write}
 use Rattle.meaning.proofs.Frames.{le-in, piece-in}
-use Rattle.meaning.proofs.Local.{Agree, spread-local, span-local}
+use Rattle.meaning.proofs.Local.{Agree, spread-local}
 use Rattle.commits.specs.Body.{Right, Body}
-use Rattle.commits.proofs.Rows.{all-both, all-flat}
-use Rattle.commits.proofs.PartKept.{marked-same, spread-ends, inside-more}
+use Rattle.meaning.proofs.Members.{all-flat}
+use Rattle.commits.proofs.Rows.{all-both}
+use Rattle.commits.proofs.PartKept.{Ends-same, numbered-same, kept-ends, spread-ends, inside-more}
 use Rattle.commits.proofs.LogAdded.{Log-agree, row-local, chain-local, next-inside}
 use Rattle.commits.proofs.Around.{Kept}
-
-numbered-same : (b c : List ℕ) (end id i : ℕ) (fs : List Span) → All (Inside 36 end) fs → All (Kept b c) fs → Numbered b id i fs → Numbered c id i fs
-numbered-same b c end id i [] a k m = tt
-numbered-same b c end id i (f ∷ fs) ((x, y), a) (s, k) (m, ms) =
-    (marked-same b c id i f x (λ j l h. s j l (omega arith)) (λ j l h. s j (omega arith) h) m, numbered-same b c end id (i + 1) fs a k ms)
 
 agree-same : (b c : List ℕ) (end : ℕ) (fs : List Span) (q : ℕ) → All (Inside 36 end) fs → All (Kept b c) fs → q ≤ end-of (last-of (span 0 0) fs) → end ≤ length b → end ≤ length c → Agree b c fs q
 agree-same b c end [] q a k u x y = tt
@@ -42,7 +38,8 @@ right-same b c h h′ l x y z k r =
     record {
       part = record {
         inside = inside-more (h .end) (h′ .end) (l .fragments) z (p .inside);
-        marks = numbered-same b c (h .end) (l .id) 0 (l .fragments) (p .inside) k (p .marks);
+        marks = numbered-same b c (h .end) (l .id) 0 (l .fragments) (p .inside)
+            (all-both (Inside 36 (h .end)) (Kept b c) (Ends-same b c) (l .fragments) (λ f i s. kept-ends b c f (i .0) s) (p .inside) k) (p .marks);
         real = p .real;
         spread = spread-local b c (p .spread) (agree-same b c (h .end) (l .fragments) (l .free) (p .inside) k (omega arith) x y);
       };
@@ -69,11 +66,10 @@ kept-agree b c end [] used i k u = tt
 kept-agree b c end (f ∷ []) used ((x, y), i) (s, k) u = let n = next-inside f x in λ j l h. s j l (omega arith)
 kept-agree b c end (f ∷ (g ∷ gs)) used ((x, y), i) (s, k) u = (s, kept-agree b c end (g ∷ gs) used i k u)
 
--- the log's fragments are the same
-pub logs-same : (b c : List ℕ) (h : Header) (l : Log) → All (Kept b c) (l .fragments) → Logs b h l → Logs c h l
-logs-same b c h l k g =
+-- the log's bytes are the same
+pub logs-agree : (b c : List ℕ) (h : Header) (l : Log) → Log-agree b c (l .fragments) (l .used) → Logs b h l → Logs c h l
+logs-agree b c h l a g =
     let p = g .part in
-    let a : Log-agree b c (l .fragments) (l .used) = kept-agree b c (h .end) (l .fragments) (l .used) (p .inside) k (p .places) in
     record {
       part = record {
         chain = chain-local b c (h .end) (h .log) (l .fragments) (l .used) (p .inside) a (p .chain);
@@ -90,28 +86,25 @@ logs-same b c h l k g =
       ends = g .ends;
     }
 
+pub logs-same : (b c : List ℕ) (h : Header) (l : Log) → All (Kept b c) (l .fragments) → Logs b h l → Logs c h l
+logs-same b c h l k g = logs-agree b c h l (kept-agree b c (h .end) (l .fragments) (l .used) (g .part .inside) k (g .part .places)) g
+
 -- the header's bytes are the same
 pub headed-same : (b c : List ℕ) (h : Header) → Kept b c header-span → h .end ≤ length c → Headed b h → Headed c h
 headed-same b c h s l m =
     let w = m .whole in
     let low = m .least in
     let v : Same b c 0 1024 = λ i x y. s i (omega arith) (omega arith) in
-    let e1 = le-in 4 b c 0 1024 0x60 v (omega arith) (omega arith) in
-    let e2 = le-in 8 b c 0 1024 0xC4 v (omega arith) (omega arith) in
-    let e3 = le-in 8 b c 0 1024 0xE4 v (omega arith) (omega arith) in
-    let e4 = piece-in b c 0 1024 0xD4 16 v w (omega arith) (omega arith) (omega arith) in
-    let e5 = span-local b c 0 1024 0x94 v (omega arith) (omega arith) in
-    let e6 = span-local b c 0 1024 0xA0 v (omega arith) (omega arith) in
-    let e7 = span-local b c 0 1024 0xAC v (omega arith) (omega arith) in
-    let q : header-at b ≡ header-at c = rw (e1, e2, e3, e4, e5, e6, e7) in
+    let row : (p : ℕ) → p + 16 ≤ 1024 → piece b p 16 ≡ piece c p 16 = λ p k. piece-in b c 0 1024 p 16 v w (omega arith) (omega arith) k in
+    let q : header-at b ≡ header-at c = grind (arith, le-in 4 b c 0 1024, le-in 8 b c 0 1024, row) in
     record {
       fields = m .fields ∙ q;
       whole = omega arith;
       stored = omega arith;
       least = m .least;
       most = m .most;
-      type = sym (piece-in b c 0 1024 0 16 v w (omega arith) (omega arith) (omega arith)) ∙ m .type;
-      format = sym (piece-in b c 0 1024 0x30 16 v w (omega arith) (omega arith) (omega arith)) ∙ m .format;
+      type = sym (row 0x00 (omega arith)) ∙ m .type;
+      format = sym (row 0x30 (omega arith)) ∙ m .format;
       readable = rw (← le-in 4 b c 0 1024 0x4C v (omega arith) (omega arith)) (m .readable);
       counts = m .counts;
     }

@@ -1,6 +1,6 @@
 -- Which lists there are, after one node more: a node that names no list, or one that names a new list.
 -- Assumes nothing.
-use Prim.Native.Nat.{zero, suc, _+_}
+use Prim.Native.Nat.{_+_}
 use mathlib.Core.Path.{_≡_, refl, sym, ap, _∙_, subst}
 use mathlib.Core.Logic.{_⊎_, inl, inr}
 use mathlib.Core.List.{List, [], _∷_, _++_, map}
@@ -15,34 +15,20 @@ use Rattle.model.specs.Section.{NodeList, flat, first-of}
 use Rattle.model.specs.OpenedLists.{Named, named-by, named-first}
 use Rattle.model.specs.Means.{named-in, Reached, by-header, by-node}
 use Rattle.meaning.proofs.Base.{all-front}
-use Rattle.meaning.proofs.Members.{flat-append}
+use Rattle.meaning.proofs.Members.{in-from-has, has-from-in, in-without, in-with, flat-append, all-flat, flat-all}
 use Rattle.commits.specs.Body.{Tied}
-use Rattle.commits.proofs.Rows.{all-flat, flat-all, flat-instead}
+use Rattle.commits.proofs.Rows.{flat-instead}
 
 -- elements of a list -------------------------------------------------------------------------------------------------
 
-pub has-here : {A : Type 0} (x : A) (xs : List A) → Has (x ∷ xs) x
+has-here : {A : Type 0} (x : A) (xs : List A) → Has (x ∷ xs) x
 has-here x xs = (0, omega arith, λ d. refl)
 
-pub has-there : {A : Type 0} (x y : A) (xs : List A) → Has xs y → Has (x ∷ xs) y
-has-there x y xs (k, l, a) = (suc k, omega arith, a)
-
-pub has-where : {A : Type 0} (x y : A) (xs : List A) → Has (x ∷ xs) y → (x ≡ y) ⊎ Has xs y
-has-where x y xs (zero, l, a) = inl (a x)
-has-where x y xs (suc k, l, a) = inr (k, omega arith, a)
-
 -- an element of a list is the one in the middle, or is in it with another there
-pub has-instead : {A : Type 0} (xs : List A) (y z : A) (ys : List A) (m : A) → Has (xs ++ (y ∷ ys)) m → (y ≡ m) ⊎ Has (xs ++ (z ∷ ys)) m
-has-instead [] y z ys m h = elim (has-where y m ys h) [
+has-instead : {A : Type 0} (xs : List A) (y z : A) (ys : List A) (m : A) → Has (xs ++ (y ∷ ys)) m → (y ≡ m) ⊎ Has (xs ++ (z ∷ ys)) m
+has-instead xs y z ys m h = elim (in-without xs ys y m (in-from-has (xs ++ (y ∷ ys)) m h)) [
   | inl e ↦ inl e
-  | inr i ↦ inr (has-there z m ys i)
-]
-has-instead (x ∷ xs) y z ys m h = elim (has-where x m (xs ++ (y ∷ ys)) h) [
-  | inl e ↦ inr (subst (λ w. Has (x ∷ (xs ++ (z ∷ ys))) w) e (has-here x (xs ++ (z ∷ ys))))
-  | inr i ↦ elim (has-instead xs y z ys m i) [
-    | inl e ↦ inl e
-    | inr j ↦ inr (has-there x m (xs ++ (z ∷ ys)) j)
-  ]
+  | inr i ↦ inr (has-from-in (xs ++ (z ∷ ys)) m (in-with xs ys z m i))
 ]
 
 pub map-instead : {A B : Type 0} (f : A → B) (xs : List A) (y z : A) (ys : List A) → f z ≡ f y → map f (xs ++ (z ∷ ys)) ≡ map f (xs ++ (y ∷ ys))

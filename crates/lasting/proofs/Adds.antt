@@ -18,14 +18,17 @@ use Rattle.model.specs.References.{span, end-of, span-bytes}
 use Rattle.model.specs.Nodes.{plain-node, referring-node, terminator}
 use Rattle.model.specs.ListFragments.{nodes-from, nodes-to, new-fragment}
 use Rattle.model.specs.Section.{NodeList, Section}
-use Rattle.model.specs.Layouts.{Add, plain, with-data, branch, Tail, tail, Layout, member, find-tail, with-tail, ending-at, more-fragments, more-lists}
+use Rattle.model.specs.Layouts.{Add, plain, with-data, branch, Tail, tail, Layout, member, find-tail, ending-at, more-fragments, more-lists}
 use Rattle.model.specs.Saving.{at-end, Plan, after-write, fitting, spilling, with-node, planned}
 use Rattle.model.specs.Calls.{add-checks}
 use Rattle.model.specs.Journal.{Fit-add}
 use Rattle.model.specs.Laws.{past-end, in-list, last-fragment, Free}
 use Rattle.meaning.proofs.Base.{Clean}
 use Rattle.meaning.proofs.Members.{In, has-from-in}
-use Rattle.lasting.proofs.Sizes.{length-digits, length-span-bytes, length-plain, length-referring, length-new-fragment, piece-ends, digits-bytes, span-bytes-bytes, plain-bytes, referring-bytes, fragment-bytes}
+use Rattle.commits.proofs.Sizes.{length-digits, length-span-bytes, length-plain, length-referring, length-new-fragment}
+use Rattle.commits.proofs.Sums.{digits-bytes}
+use Rattle.commits.proofs.Drafts.{tails-with}
+use Rattle.lasting.proofs.Sizes.{piece-ends, span-bytes-bytes, plain-bytes, referring-bytes, fragment-bytes}
 use Rattle.lasting.proofs.Steps.{Steps, steps-append, steps-none, steps-at-end, steps-within}
 
 -- ---- what is known of a draft over s
@@ -57,10 +60,6 @@ find-held : (P : Tail → Type 0) (ts : List Tail) (id : ℕ) → All P ts → m
 unfolding find-tail
 find-held P [] id a m = absurd (grind arith)
 find-held P (t ∷ ts) id a m = cond-both (eqb (t .id) id) t (find-tail ts id) P (λ e. a .0) (λ e. find-held P ts id (a .1) (grind (arith, tells)))
-
-with-held : (P : Tail → Type 0) (t : Tail) (ts : List Tail) → P t → All P ts → All P (with-tail t ts)
-with-held P t [] p a = tt
-with-held P t (u ∷ us) p a = (cond-both (eqb (u .id) (t .id)) t u P (λ e. p) (λ e. a .0), with-held P t us p (a .1))
 
 member-append : (id : ℕ) (ts us : List Tail) → member id (map (λ t. t .id) ts) ≡ true → member id (map (λ t. t .id) (ts ++ us)) ≡ true
 member-append id [] us m = absurd (grind arith)
@@ -113,7 +112,7 @@ module _ {s : Section} {y : Layout} (d : Draft-held s y) (id : ℕ) (new : List 
       let held : Tail-held s (y .end) u
       = record { grown = grown-more u (x .grown) refl (omega arith); size = x .size; to = x .to; free-from = omega arith; free-to = omega arith } in
       record {
-        held = record { end = d .end; tails = with-held (Tail-held s (y .end)) u (y .tails) held (d .tails) };
+        held = record { end = d .end; tails = tails-with (Tail-held s (y .end)) u (y .tails) held (d .tails) };
         steps = steps-within (t .free) new (omega arith) bytes (λ i u v. tail-free (x .grown) (x .free-from) i u (omega arith));
       }
 
@@ -130,7 +129,7 @@ module _ {s : Section} {y : Layout} (d : Draft-held s y) (id : ℕ) (new : List 
       let held : Tail-held s end u = record { grown = fresh (d .end); size = omega arith; to = q; free-from = omega arith; free-to = omega arith } in
       let close : Steps s end end _ = steps-append (steps-close x (omega arith)) (steps-next x (omega arith) f) in
       record {
-        held = record { end = omega arith; tails = with-held (Tail-held s end) u (y .tails) held (tails-later s (y .end) end (y .tails) (omega arith) (d .tails)) };
+        held = record { end = omega arith; tails = tails-with (Tail-held s end) u (y .tails) held (tails-later s (y .end) end (y .tails) (omega arith) (d .tails)) };
         steps = steps-append (steps-at-end y new-piece (d .end) (fragment-bytes id (t .number + 1) new bytes)) close;
       }
 

@@ -28,7 +28,9 @@ use Rattle.model.specs.Laws.{in-log, last-fragment, Writes-free, Done-adds, add
 use Rattle.meaning.proofs.Base.{Clean}
 use Rattle.meaning.proofs.Members.{In, all-from-in}
 use Rattle.lasting.proofs.Places.{meant, Log-end, list-end, log-end}
-use Rattle.lasting.proofs.Sizes.{length-span-bytes, length-entry-bytes, piece-ends, span-bytes-bytes, entry-bytes-bytes, log-fragment-bytes}
+use Rattle.commits.proofs.Sizes.{length-span-bytes, length-entry-bytes}
+use Rattle.commits.proofs.Sums.{entries-bytes}
+use Rattle.lasting.proofs.Sizes.{piece-ends, span-bytes-bytes, log-fragment-bytes}
 use Rattle.lasting.proofs.Steps.{Steps, steps-append, steps-none, steps-at-end, steps-within}
 use Rattle.lasting.proofs.Adds.{old, Tail-held, Draft-held, Kept, kept-planned}
 
@@ -86,7 +88,7 @@ steps-fit s a (e ∷ es) g h k =
     let to = g .to in
     let used-to = g .used-to in
     let z = length-entry-bytes (e ∷ es) in
-    steps-within (entry-place (last-log s) (s .log .used)) (entry-bytes (e ∷ es)) (omega arith) (entry-bytes-bytes (e ∷ es)) (λ i u v. in-log u (omega arith))
+    steps-within (entry-place (last-log s) (s .log .used)) (entry-bytes (e ∷ es)) (omega arith) (entries-bytes (e ∷ es)) (λ i u v. in-log u (omega arith))
 
 steps-logged : (s : Section) (y : Layout) → Log-end s → s .header .end ≤ y .end → Steps s (y .end) (logged s y .end) (logged s y .writes)
 steps-logged s y g d =

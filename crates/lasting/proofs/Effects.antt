@@ -2,7 +2,7 @@
 -- Assumes nothing.
 use Prim.Native.Nat.{ℕ, _+_, _^_}
 use mathlib.Core.Path.{_≡_, refl, sym, subst}
-use mathlib.Core.Bool.{Bool, true, false, cond, not, _||_}
+use mathlib.Core.Bool.{not, _||_}
 use mathlib.Core.List.{List, [], _∷_, _++_}
 use lib.Dec.{eqb, leb}
 use lib.ListN.{length}
@@ -19,18 +19,11 @@ use Rattle.model.specs.Committing.{committing}
 use Rattle.model.specs.Calls.{Draft, Access, State, Call, open-file, begin, add, commit, abandon, looking, Answer, begun, committed, abandoned, Effect, access-of, saving, add-checks, add-answer, commit-checks, effect, answer-of, writes-of, access-after}
 use Rattle.model.specs.Journal.{Fit-add, Fit, commits}
 use Rattle.model.specs.Laws.{adds-of}
-use Rattle.meaning.proofs.Base.{Clean}
+use Rattle.meaning.proofs.Base.{Clean, unless-tells}
 
 -- either a rule is broken, and a fault is told, or none is
-unless-first : {A : Type 0} (t : Bool) (f : Fault) (a : Outcome A) (P : Outcome A → Type 0)
-    → ((f : Fault) → P (refused f)) → (t ≡ false → P a) → P (cond t (refused f) a)
-unless-first true f a P broken kept = broken f
-unless-first false f a P broken kept = kept refl
-
 unless-either : {A : Type 0} (cs : List Check) (a : Outcome A) (P : Outcome A → Type 0) → ((f : Fault) → P (refused f)) → (Clean cs → P a) → P (unless cs a)
-unless-either [] a P broken kept = kept tt
-unless-either (c ∷ cs) a P broken kept =
-    unless-first (c .0) (c .1) (unless cs a) P broken (λ e. unless-either cs a P broken (λ p. kept (e, p)))
+unless-either cs a P broken kept = unless-tells P cs a (λ f w. broken f) kept
 
 -- an opened file
 abbrev pub open-state : ℕ → List ℕ → Access → State

@@ -3,18 +3,16 @@
 use Prim.Native.Nat.{ℕ, _+_, _<_, _≤_}
 use mathlib.Core.Path.{_≡_, refl}
 use mathlib.Core.List.{List, [], _∷_}
-use native.Mathlib.Omega.{arith}
 use lib.ListN.{length, take}
 use Rattle.std.specs.shelf.Lists.{All}
-use Rattle.std.proofs.shelf.Lists.{length-take}
 use Rattle.std.proofs.shelf.Elements.{all-take}
 use Rattle.model.specs.declared.types.Header.{Header}
 use Rattle.model.specs.Bytes.{digits, Write, put, Bytes}
 use Rattle.model.specs.Committing.{header-write}
 use Rattle.model.specs.Cuts.{Writes-header}
-use Rattle.model.specs.Laws.{Taken}
-use Rattle.lasting.proofs.Rows.{length-applied, applied-bytes}
-use Rattle.lasting.proofs.Sizes.{length-digits, digits-bytes}
+use Rattle.lasting.proofs.Rows.{applied-bytes}
+use Rattle.commits.proofs.Sums.{digits-bytes}
+use Rattle.commits.proofs.HeadBack.{head-length}
 
 module _ (b : List ℕ) (h : Header) (end : ℕ) (guid : List ℕ) where
   -- the four fields that change
@@ -32,11 +30,4 @@ module _ (b : List ℕ) (h : Header) (end : ℕ) (guid : List ℕ) where
       applied-bytes (take 512 b) changes (all-take (λ n. n < 256) 512 b x) each
 
   pub writes-header : 1024 ≤ length b → length guid ≡ 16 → Writes-header (header-write b h end guid)
-  writes-header l g =
-      let one = length-digits 4 (h .count + 1) in
-      let two = length-digits 8 end in
-      let three = length-digits 8 (h .generation + 1) in
-      let n : length (take 512 b) ≡ 512 = simp length-take (omega arith) in
-      let inside : Taken (length (take 512 b)) 512 changes = (omega arith, omega arith, (omega arith, omega arith, (omega arith, omega arith, (omega arith, omega arith, tt)))) in
-      let e = length-applied (take 512 b) 512 changes inside in
-      (refl, omega arith)
+  writes-header l g = (refl, head-length b h end guid l g)

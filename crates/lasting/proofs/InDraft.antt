@@ -20,7 +20,8 @@ use Rattle.model.specs.Cuts.{Writes-header}
 use Rattle.model.specs.Laws.{Done-adds, add-writes, Taken, Commits-to}
 use Rattle.meaning.proofs.Base.{Clean}
 use Rattle.lasting.proofs.Places.{meant}
-use Rattle.lasting.proofs.Rows.{written-bytes, length-after, length-after-append, length-applied, taken-append, applied-append, applied-bytes}
+use Rattle.lasting.proofs.Rows.{written-bytes, length-after, length-after-append, length-applied, taken-append, applied-bytes}
+use Rattle.commits.proofs.Store.{applied-row}
 use Rattle.lasting.proofs.Steps.{Steps}
 use Rattle.lasting.proofs.Drafts.{writes-push, adds-push, adds-step, add-step, log-step}
 use Rattle.lasting.proofs.Untouched.{Same-file, long, steps-kept, steps-length}
@@ -105,7 +106,7 @@ module _ {ceiling : ℕ} {b : List ℕ} {s : Section} {adds : List Add} (x : Dra
     next-same = steps-kept mid s (mid-same .opens) mid-end its-end mid-long its-writes next-step
 
     pub next-is : applied mid its-writes ≡ drafted-bytes b s (adds ++ (a ∷ []))
-    next-is = sym (applied-append b (add-writes (blank s) adds) its-writes) ∙ ap (applied b) (sym (writes-push (blank s) adds a))
+    next-is = sym (applied-row b (add-writes (blank s) adds) its-writes) ∙ ap (applied b) (sym (writes-push (blank s) adds a))
 
     pub next-drafting : Drafting ceiling b s (adds ++ (a ∷ []))
     next-drafting =
@@ -137,7 +138,7 @@ module _ {ceiling : ℕ} {b : List ℕ} {s : Section} {adds : List Add} (x : Dra
 
   pub committed-is : (guid : List ℕ) → committed-bytes b s adds guid ≡ written (applied mid (log-writes s adds)) 0 (last-write b s adds guid .new)
   unfolding applied
-  committed-is guid = ap (applied mid) (committing-is guid) ∙ applied-append mid (log-writes s adds) (last-write b s adds guid ∷ [])
+  committed-is guid = ap (applied mid) (committing-is guid) ∙ applied-row mid (log-writes s adds) (last-write b s adds guid ∷ [])
 
   module _ (guid : List ℕ) (guid-bytes : Bytes guid) (guid-length : length guid ≡ 16) where
     pub last-is-header : Writes-header (last-write b s adds guid)

@@ -5,27 +5,14 @@ use mathlib.Core.Path.{_≡_, refl, ap, _∙_}
 use mathlib.Core.Logic.{_⊎_, inl, inr}
 use mathlib.Core.List.{List, [], _∷_, _++_}
 use native.Mathlib.Omega.{arith}
-use borrow.Author.Needs.{needs}
 use lib.ListN.{length, getD, take, drop}
 use Rattle.std.specs.shelf.Lists.{All}
-use Rattle.std.proofs.shelf.Lists.{places, length-append, length-take, length-drop}
 use Rattle.std.proofs.shelf.Elements.{all-append, all-take, all-drop}
 use Rattle.model.specs.Bytes.{Write, written, applied, behind, Bytes}
 use Rattle.model.specs.Laws.{Taken}
+use Rattle.commits.proofs.Store.{length-written, written-below, written-above}
 
 -- ---- one write
-
-pub length-written : (b : List ℕ) (p : ℕ) (new : List ℕ) → p ≤ length b → length (written b p new) ≡ max (length b) (p + length new)
-unfolding written
-length-written b p new h = simp (length-append, length-take, length-drop) (omega arith)
-
-written-below : (b : List ℕ) (p : ℕ) (new : List ℕ) (i : ℕ) → p ≤ length b → i < p → getD (written b p new) i 0 ≡ getD b i 0
-unfolding written
-written-below b p new i h l = search (needs, places)
-
-written-above : (b : List ℕ) (p : ℕ) (new : List ℕ) (i : ℕ) → p ≤ length b → p + length new ≤ i → getD (written b p new) i 0 ≡ getD b i 0
-unfolding written
-written-above b p new i h l = search (needs, places)
 
 -- a place is outside a write
 abbrev pub Outside : ℕ → Write → Type 0
@@ -63,11 +50,6 @@ taken-append n ceiling (w ∷ ws) vs (x, y, f) g = (x, y, taken-append (max n (b
 pub taken-front : (n ceiling : ℕ) (ws vs : List Write) → Taken n ceiling (ws ++ vs) → Taken n ceiling ws
 taken-front n ceiling [] vs f = tt
 taken-front n ceiling (w ∷ ws) vs (x, y, f) = (x, y, taken-front (max n (behind w)) ceiling ws vs f)
-
-pub applied-append : (b : List ℕ) (ws vs : List Write) → applied b (ws ++ vs) ≡ applied (applied b ws) vs
-unfolding applied
-applied-append b [] vs = refl
-applied-append b (w ∷ ws) vs = applied-append (written b (w .place) (w .new)) ws vs
 
 pub length-applied : (b : List ℕ) (ceiling : ℕ) (ws : List Write) → Taken (length b) ceiling ws → length (applied b ws) ≡ length-after (length b) ws
 unfolding applied

@@ -1,7 +1,6 @@
--- The parts that are written: how many bytes they take, and that they are bytes.
+-- The parts that are written are bytes.
 -- Assumes nothing.
-use Prim.Native.Nat.{ℕ, zero, suc, _+_, _-_, _*_, _/_, _%_, _<_, _≤_}
-use mathlib.Core.Path.{_≡_, refl, ap}
+use Prim.Native.Nat.{ℕ, zero, suc, _+_, _-_, _*_, _%_, _<_, _≤_}
 use mathlib.Core.List.{List, [], _∷_, _++_}
 use native.Mathlib.Omega.{arith}
 use lib.ListN.{length, replicate}
@@ -17,36 +16,11 @@ use Rattle.model.specs.ListFragments.{first-mark, last-mark, new-fragment}
 use Rattle.model.specs.LogFragments.{entry-bytes, new-log-fragment}
 use Rattle.model.specs.Layouts.{Layout}
 use Rattle.model.specs.Saving.{at-end}
-
--- ---- sizes
-
-pub length-digits : (n v : ℕ) → length (digits n v) ≡ n
-unfolding digits
-length-digits zero v = refl
-length-digits (suc n) v = ap suc (length-digits n (v / 256))
-
-pub length-span-bytes : (r : Span) → length (span-bytes r) ≡ 12
-length-span-bytes r = simp (length-append, length-digits)
-
-pub length-plain : (id : ℕ) (payload : List ℕ) → length (plain-node id payload) ≡ 4 + length payload
-length-plain id payload = simp (length-append, length-digits)
-
-pub length-referring : (id base : ℕ) (r : Span) (payload : List ℕ) → length (referring-node id base r payload) ≡ 16 + length payload
-length-referring id base r payload = simp (length-append, length-digits) (omega arith)
-
-pub length-new-fragment : (id number : ℕ) (node : List ℕ) → length node ≤ 988 → length (new-fragment id number node) ≡ 1024
-length-new-fragment id number node h = simp (length-append, length-digits, length-replicate) (omega arith)
-
-pub length-entry-bytes : (es : List Entry) → length (entry-bytes es) ≡ 8 * length es
-unfolding entry-bytes
-length-entry-bytes [] = refl
-length-entry-bytes (e ∷ es) = simp (length-append, length-digits, length-entry-bytes es) (omega arith)
+use Rattle.commits.proofs.Sums.{digits-bytes, entries-bytes}
 
 -- a piece reaches at least as far as what it holds
 pub piece-ends : (y : Layout) (new : List ℕ) → y .end + length new ≤ behind (at-end y new)
 piece-ends y new = simp (length-append, length-replicate) (omega arith)
-
--- ---- bytes
 
 -- parts one after the other
 abbrev row-of : List (List ℕ) → List ℕ → List ℕ
@@ -56,11 +30,6 @@ row-of (xs ∷ xss) last = xs ++ row-of xss last
 row-bytes : (xss : List (List ℕ)) (last : List ℕ) → All Bytes xss → Bytes last → Bytes (row-of xss last)
 row-bytes [] last a c = c
 row-bytes (xs ∷ xss) last (p, a) c = all-append (λ x. x < 256) xs (row-of xss last) p (row-bytes xss last a c)
-
-pub digits-bytes : (n v : ℕ) → Bytes (digits n v)
-unfolding digits
-digits-bytes zero v = tt
-digits-bytes (suc n) v = (omega arith, digits-bytes n (v / 256))
 
 zeros-bytes : (n : ℕ) → Bytes (replicate n 0)
 zeros-bytes zero = tt
@@ -83,17 +52,11 @@ fragment-bytes id number node a =
     let each : All Bytes parts = (digits-bytes 8 first-mark, (digits-bytes 4 id, (digits-bytes 4 number, (a, (zeros-bytes (988 - length node), (span-bytes-bytes nil, tt)))))) in
     row-bytes parts (digits 8 last-mark) each (digits-bytes 8 last-mark)
 
-pub entry-bytes-bytes : (es : List Entry) → Bytes (entry-bytes es)
-unfolding entry-bytes
-entry-bytes-bytes [] = tt
-entry-bytes-bytes (e ∷ es) =
-    row-bytes (digits 4 (e .source) ∷ digits 4 (e .number) ∷ []) (entry-bytes es) (digits-bytes 4 (e .source), (digits-bytes 4 (e .number), tt)) (entry-bytes-bytes es)
-
 pub log-fragment-bytes : (es : List Entry) → Bytes (new-log-fragment es)
 log-fragment-bytes es =
     let zeros = replicate (8 * (126 - length es)) 0 in
     let parts : List (List ℕ) = entry-bytes es ∷ zeros ∷ span-bytes nil ∷ [] in
-    let each : All Bytes parts = (entry-bytes-bytes es, (zeros-bytes (8 * (126 - length es)), (span-bytes-bytes nil, tt))) in
+    let each : All Bytes parts = (entries-bytes es, (zeros-bytes (8 * (126 - length es)), (span-bytes-bytes nil, tt))) in
     row-bytes parts (replicate 4 0) each (zeros-bytes 4)
 
 pub piece-bytes : (y : Layout) (new : List ℕ) → Bytes new → Bytes (at-end y new .new)

@@ -1,7 +1,7 @@
--- Outcomes that are not refused, ranges apart, and lists whose elements stand apart pairwise.
+-- Outcomes, ranges apart, and lists whose elements stand apart pairwise.
 -- Assumes nothing.
 use Prim.Native.Nat.{ℕ, _≤_}
-use mathlib.Core.Path.{_≡_, refl}
+use mathlib.Core.Path.{_≡_, refl, ap}
 use mathlib.Core.Logic.{inl, inr}
 use mathlib.Core.Bool.{true, false}
 use mathlib.Core.List.{List, [], _∷_, _++_, map}
@@ -12,7 +12,8 @@ use Rattle.std.proofs.shelf.Ways.{tells}
 use Rattle.std.proofs.shelf.Tests.{cases-bool, or-from, or-parts}
 use Rattle.std.proofs.shelf.Elements.{all-append, all-weaker}
 use Rattle.model.specs.declared.types.Span.{Span}
-use Rattle.model.specs.Faults.{Outcome, done, refused, Check, unless, then}
+use Rattle.model.specs.declared.types.Fault.{Fault}
+use Rattle.model.specs.Faults.{Outcome, refused, Check, unless}
 use Rattle.model.specs.References.{share, meets, end-of}
 use Rattle.model.specs.Headers.{header-span}
 use Rattle.model.specs.OpenedLog.{outside, overlaps}
@@ -25,18 +26,26 @@ use Rattle.model.specs.Nodes.{Node, referring}
 abbrev pub Clean : List Check → Type 0
 Clean cs = All (λ c. c .0 ≡ false) cs
 
-pub unless-done : {A : Type 0} (cs : List Check) (a : Outcome A) (x : A) → unless cs a ≡ done x → Clean cs × (a ≡ done x)
-unless-done [] a x e = (tt, e)
-unless-done ((true, f) ∷ cs) a x e = absurd (grind arith)
-unless-done ((false, f) ∷ cs) a x e = let (c, d) = unless-done cs a x e in ((refl, c), d)
-
 pub unless-clean : {A : Type 0} (cs : List Check) (a : Outcome A) → Clean cs → unless cs a ≡ a
 unless-clean [] a k = refl
 unless-clean ((t, f) ∷ cs) a (e, k) = rw e (unless-clean cs a k)
 
-pub then-done : {A B : Type 0} (w : Outcome A) (k : A → Outcome B) (x : B) → then w k ≡ done x → (a : A) × (w ≡ done a) × (k a ≡ done x)
-then-done (done a) k x e = (a, refl, e)
-then-done (refused f) k x e = absurd (grind arith)
+-- the first broken rule is told
+pub unless-broken : {A : Type 0} (before later : List Check) (f : Fault) (a : Outcome A) → Clean before → unless (before ++ ((true, f) ∷ later)) a ≡ refused f
+unless-broken [] later f a k = refl
+unless-broken ((t, g) ∷ before) later f a (e, k) = rw e (unless-broken before later f a k)
+
+pub record First-broken (cs : List Check) (f : Fault) : Type 0 where
+  pub before : List Check
+  pub later : List Check
+  pub clean : Clean before
+  pub is : cs ≡ before ++ ((true, f) ∷ later)
+
+pub unless-tells : {A : Type 0} (P : Outcome A → Type 0) (cs : List Check) (a : Outcome A) → ((f : Fault) → First-broken cs f → P (refused f)) → (Clean cs → P a) → P (unless cs a)
+unless-tells P [] a bad good = good tt
+unless-tells P ((true, f) ∷ cs) a bad good = bad f (record { before = []; later = cs; clean = tt; is = refl })
+unless-tells P ((false, f) ∷ cs) a bad good =
+    unless-tells P cs a (λ g w. bad g (record { before = (false, f) ∷ w .before; later = w .later; clean = (refl, w .clean); is = ap (λ z. (false, f) ∷ z) (w .is) })) (λ c. good (refl, c))
 
 -- All --------------------------------------------------------------------------------------------------------------
 

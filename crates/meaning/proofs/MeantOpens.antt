@@ -1,15 +1,14 @@
 -- What bytes mean, they open as.
 -- Assumes nothing.
-use Prim.Native.Nat.{ℕ, _≤_}
+use Prim.Native.Nat.{ℕ, _-_, _≤_}
 use mathlib.Core.Path.{_≡_, refl, sym, ap, _∙_}
-use mathlib.Core.Logic.{inl, inr}
 use mathlib.Core.Bool.{true, false, not, _||_}
 use mathlib.Core.List.{List, [], _∷_, _++_, map}
 use native.Mathlib.Omega.{arith}
 use lib.Dec.{eqb, ltb}
 use lib.ListN.{length}
 use Rattle.std.specs.shelf.Lists.{All, Has}
-use Rattle.std.proofs.shelf.Lists.{append-nil}
+use Rattle.std.proofs.shelf.Lists.{append-nil, drop-all}
 use Rattle.std.proofs.shelf.Ways.{tells}
 use Rattle.std.proofs.shelf.Tests.{and-from}
 use Rattle.std.proofs.shelf.Elements.{all-append}
@@ -20,16 +19,16 @@ use Rattle.model.specs.Faults.{done, Check, unless, then}
 use Rattle.model.specs.References.{end-of}
 use Rattle.model.specs.Headers.{header-span, most, file-type, file-format, header-at}
 use Rattle.model.specs.Nodes.{Node, referring}
-use Rattle.model.specs.Section.{Log, NodeList, Section, flat, list-fragments}
-use Rattle.model.specs.OpenedLog.{log-from, reading}
-use Rattle.model.specs.OpenedLists.{named-first, lists-from}
+use Rattle.model.specs.Section.{Log, NodeList, Section, list-fragments, first-of}
+use Rattle.model.specs.OpenedLists.{Named, named-first, lists-from}
 use Rattle.model.specs.Opened.{header-checks, data-checks, opened, all-data, last-part, part-lists, part-log}
-use Rattle.model.specs.Means.{Apart, Headed, data-spans, Means, In-order}
+use Rattle.model.specs.Means.{Apart, Headed, Logs, named-in, data-spans, Means, In-order}
+use Rattle.model.specs.Breaks.{Walked}
 use Rattle.model.specs.Laws.{Meant-opens}
 use Rattle.meaning.proofs.Base.{Clean, unless-clean, all-front, apart-overlaps, Data-fits, references}
-use Rattle.meaning.proofs.Members.{In, has-from-in, in-map, in-flat, in-unflat, all-in, all-from-in}
+use Rattle.meaning.proofs.Members.{In, has-from-in, in-map, in-flat, in-unflat, all-in, all-from-in, flat-all}
 use Rattle.meaning.proofs.ReadLog.{logs-read}
-use Rattle.meaning.proofs.ReadQueue.{Stock, Right, lists-read, lists-read-in-order}
+use Rattle.meaning.proofs.ReadQueue.{Stock, Right, lists-read, lists-end, walked-read}
 
 -- header -----------------------------------------------------------------------------------------------------------
 
@@ -66,10 +65,6 @@ data-passes end fs id (n ∷ ns) ((x, (y, z)), a) =
     let e : ltb end (end-of (n .reference)) ≡ false = grind (arith, tells) in
     (e, (apart-overlaps (n .reference) fs y z, data-passes end fs id ns a))
 
-all-flat : {X Y : Type 0} (P : Y → Type 0) (f : X → List Y) (xs : List X) → ((x : X) → In x xs → All P (f x)) → All P (flat (map f xs))
-all-flat P f [] k = tt
-all-flat P f (x ∷ xs) k = all-append P (f x) (flat (map f xs)) (k x (inl refl)) (all-flat P f xs (λ y i. k y (inr i)))
-
 -- the fragments of the same lists in another order
 same-fragments : (log : Log) (S T : List NodeList) (P : Span → Type 0) → ((l : NodeList) → In l T → In l S)
     → All P (log .fragments ++ list-fragments S) → All P (log .fragments ++ list-fragments T)
@@ -84,36 +79,38 @@ pub data-clean : (h : Header) (log : Log) (S T : List NodeList) → ((l : NodeLi
     → All (λ r. end-of r ≤ h .end) (data-spans S) → All (λ r. All (Apart r) (header-span ∷ (log .fragments ++ list-fragments S))) (data-spans S)
     → Clean (all-data h log T)
 data-clean h log S T k inside apart =
-    all-flat (λ (c : Check). c .0 ≡ false) (λ (l : NodeList). data-checks (h .end) (log .fragments ++ list-fragments T) (l .id) (referring 1 (l .nodes))) T (λ l i.
+    let checks : NodeList → List Check = λ l. data-checks (h .end) (log .fragments ++ list-fragments T) (l .id) (referring 1 (l .nodes)) in
+    flat-all (λ (c : Check). c .0 ≡ false) checks T (all-from-in (λ (l : NodeList). Clean (checks l)) T (λ l i.
     data-passes (h .end) (log .fragments ++ list-fragments T) (l .id) (referring 1 (l .nodes))
     (all-from-in (λ (n : Node). Data-fits (h .end) (log .fragments ++ list-fragments T) (n .reference)) (referring 1 (l .nodes)) (λ n j.
     let r : In (n .reference) (data-spans S)
     = in-flat (λ (l : NodeList). references (l .nodes)) S l (n .reference) (k l i) (in-map (λ (n : Node). n .reference) (referring 1 (l .nodes)) n j) in
     let a : All (Apart (n .reference)) (header-span ∷ (log .fragments ++ list-fragments S))
     = all-in (λ r. All (Apart r) (header-span ∷ (log .fragments ++ list-fragments S))) (data-spans S) (n .reference) apart r in
-    (all-in (λ r. end-of r ≤ h .end) (data-spans S) (n .reference) inside r, (a .0, same-fragments log S T (Apart (n .reference)) k (a .1))))))
+    (all-in (λ r. end-of r ≤ h .end) (data-spans S) (n .reference) inside r, (a .0, same-fragments log S T (Apart (n .reference)) k (a .1)))))))
 
 -- opening ----------------------------------------------------------------------------------------------------------
-
--- the parts of opening
-pub record Opens (b : List ℕ) (s : Section) : Type 0 where
-  pub checks : Clean (header-checks b)
-  pub header : header-at b ≡ s .header
-  pub log : log-from 2048 b (s .header) [] 0xA0 (s .header .log) (reading [] []) ≡ done (s .log)
-  pub lists : lists-from 1024 b (s .header) (s .log) (named-first (s .header)) [] ≡ done (s .lists)
-  pub content : Clean (all-data (s .header) (s .log) (s .lists))
 
 pub opened-step : (b : List ℕ) → opened b ≡ unless (header-checks b) (part-log b (header-at b))
 unfolding opened
 opened-step b = refl
 
-pub opens-back : (b : List ℕ) (s : Section) → Opens b s → opened b ≡ done s
-opens-back b s o =
-    opened-step b ∙ unless-clean (header-checks b) (part-log b (header-at b)) (o .checks)
-    ∙ ap (λ h. part-log b h) (o .header)
-    ∙ ap (λ a. then a (part-lists b (s .header))) (o .log)
-    ∙ ap (λ a. then a (last-part (s .header) (s .log))) (o .lists)
-    ∙ unless-clean (all-data (s .header) (s .log) (s .lists)) _ (o .content)
+module _ (b : List ℕ) (h : Header) where
+  -- opening goes on behind a header that is right, a log and lists
+  pub behind-header : Headed b h → opened b ≡ part-log b h
+  behind-header k = opened-step b ∙ unless-clean (header-checks b) (part-log b (header-at b)) (headed-passes b h k) ∙ ap (λ h. part-log b h) (sym (k .fields))
+
+  pub behind-log : (log : Log) → Headed b h → Logs b h log → opened b ≡ part-lists b h log
+  behind-log log k l = behind-header k ∙ ap (λ a. then a (part-lists b h)) (logs-read b h log l (k .counts))
+
+  pub behind-lists : (log : Log) (ls : List NodeList) (queue : List Named) → Headed b h → Logs b h log → Walked b h log ls queue
+      → opened b ≡ then (lists-from (1024 - length ls) b h log queue ls) (last-part h log)
+  behind-lists log ls queue k l w = behind-log log k l ∙ ap (λ a. then a (last-part h log)) (walked-read b h log ls queue w)
+
+  -- and ends where the data is right
+  behind-data : (log : Log) (S T : List NodeList) → ((l : NodeList) → In l T → In l S) → All (λ r. end-of r ≤ h .end) (data-spans S)
+      → All (λ r. All (Apart r) (header-span ∷ (log .fragments ++ list-fragments S))) (data-spans S) → last-part h log T ≡ done (record { header = h; log = log; lists = T })
+  behind-data log S T k inside apart = unless-clean (all-data h log T) _ (data-clean h log S T k inside apart)
 
 -- the whole --------------------------------------------------------------------------------------------------------
 
@@ -141,13 +138,8 @@ means-opens b s m =
     let (T, r, k, o) = lists-read 1024 b (s .header) (s .log) (s .lists) [] (s .lists) (named-first (s .header)) (means-right b s m) (means-stock b s m)
     (ap (λ w. map (λ q. q .1) w) (append-nil (named-first (s .header)))) (m .few-lists) in (
       T,
-      opens-back b (reordered s T) (record {
-        checks = headed-passes b (s .header) (m .header);
-        header = sym (m .header .fields);
-        log = logs-read b (s .header) (s .log) (m .log) (m .header .counts);
-        lists = r;
-        content = data-clean (s .header) (s .log) (s .lists) T (k .to) (m .data-inside) (m .data-apart);
-      }),
+      behind-log b (s .header) (s .log) (m .header) (m .log) ∙ ap (λ a. then a (last-part (s .header) (s .log))) r
+          ∙ behind-data b (s .header) (s .log) (s .lists) T (k .to) (m .data-inside) (m .data-apart),
       k,
       o,
     )
@@ -165,13 +157,23 @@ meant-opens b s m =
       },
     )
 
+pub means-walked : (b : List ℕ) (s : Section) → Means b s → In-order (s .header) (s .lists) → Walked b (s .header) (s .log) (s .lists) []
+means-walked b s m i =
+    let once = m .once in
+    record {
+      lists = m .lists;
+      reached = m .reached;
+      order = sym i ∙ sym (append-nil (map first-of (s .lists)));
+      fields = sym (drop-all (length (s .lists)) (named-in (s .header) (s .lists)) (omega arith));
+      ids-differ = m .ids-differ;
+      apart = m .fragments-apart;
+      few-lists = m .few-lists;
+      few = m .few-fragments;
+    }
+
 -- and as s itself, if its lists stand in that order
 pub means-opens-in-order : (b : List ℕ) (s : Section) → Means b s → In-order (s .header) (s .lists) → opened b ≡ done s
-means-opens-in-order b s m i = opens-back b s (record {
-  checks = headed-passes b (s .header) (m .header);
-  header = sym (m .header .fields);
-  log = logs-read b (s .header) (s .log) (m .log) (m .header .counts);
-  lists = lists-read-in-order 1024 b (s .header) (s .log) (s .lists) [] (s .lists) (named-first (s .header)) (means-right b s m) (means-stock b s m)
-      (ap (λ w. map (λ q. q .1) w) (append-nil (named-first (s .header)))) i (m .few-lists);
-  content = data-clean (s .header) (s .log) (s .lists) (s .lists) (λ l i. i) (m .data-inside) (m .data-apart);
-})
+means-opens-in-order b s m i =
+    behind-lists b (s .header) (s .log) (s .lists) [] (m .header) (m .log) (means-walked b s m i)
+    ∙ ap (λ a. then a (last-part (s .header) (s .log))) (lists-end (1024 - length (s .lists)) b (s .header) (s .log) (s .lists))
+    ∙ behind-data b (s .header) (s .log) (s .lists) (s .lists) (λ l i. i) (m .data-inside) (m .data-apart)

@@ -1,4 +1,4 @@
--- Membership by recursion, and the pigeonhole.
+-- Membership by recursion, the pigeonhole, and lists of lists.
 -- Assumes nothing.
 use Prim.Native.Nat.{zero, suc, _≤_}
 use mathlib.Core.Path.{_≡_, refl, sym, ap, _∙_, subst}
@@ -7,9 +7,11 @@ use mathlib.Core.List.{List, [], _∷_, _++_, map}
 use native.Mathlib.Omega.{arith}
 use lib.ListN.{length}
 use Rattle.std.specs.shelf.Lists.{All, Has}
-use Rattle.std.proofs.shelf.Lists.{append-assoc, length-append}
+use Rattle.std.proofs.shelf.Lists.{append-assoc, append-nil, length-append}
+use Rattle.std.proofs.shelf.Elements.{all-append}
 use Rattle.model.specs.Section.{flat}
 use Rattle.model.specs.Means.{Pairwise}
+use Rattle.meaning.proofs.Base.{all-front}
 
 abbrev pub In : {X : Type 0} → X → List X → Type 0
 In x [] = ⊥
@@ -128,3 +130,19 @@ same-by-key f (z ∷ xs) x y (p, d) (inr i) (inr j) e = same-by-key f xs x y d i
 pub flat-append : {X Y : Type 0} (f : X → List Y) (xs ys : List X) → flat (map f (xs ++ ys)) ≡ flat (map f xs) ++ flat (map f ys)
 flat-append f [] ys = refl
 flat-append f (x ∷ xs) ys = ap (λ w. f x ++ w) (flat-append f xs ys) ∙ sym (append-assoc (f x) (flat (map f xs)) (flat (map f ys)))
+
+pub flat-join : {X : Type 0} (xs ys : List (List X)) → flat (xs ++ ys) ≡ flat xs ++ flat ys
+flat-join [] ys = refl
+flat-join (x ∷ xs) ys = ap (λ z. x ++ z) (flat-join xs ys) ∙ sym (append-assoc x (flat xs) (flat ys))
+
+pub flat-push : {X : Type 0} (xs : List (List X)) (x : List X) → flat (xs ++ (x ∷ [])) ≡ flat xs ++ x
+flat-push xs x = flat-join xs (x ∷ []) ∙ ap (λ z. flat xs ++ z) (append-nil x)
+
+-- what holds of all pieces holds of the pieces of each, and the other way round
+pub all-flat : {X Y : Type 0} (P : Y → Type 0) (f : X → List Y) (xs : List X) → All P (flat (map f xs)) → All (λ x. All P (f x)) xs
+all-flat P f [] a = tt
+all-flat P f (x ∷ xs) a = let (p, q) = all-front P (f x) (flat (map f xs)) a in (p, all-flat P f xs q)
+
+pub flat-all : {X Y : Type 0} (P : Y → Type 0) (f : X → List Y) (xs : List X) → All (λ x. All P (f x)) xs → All P (flat (map f xs))
+flat-all P f [] a = tt
+flat-all P f (x ∷ xs) (p, a) = all-append P (f x) (flat (map f xs)) p (flat-all P f xs a)

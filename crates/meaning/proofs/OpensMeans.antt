@@ -1,7 +1,8 @@
--- What bytes open as, they mean; and so opening is the relation.
+-- What opening tells: the file is right, and is opened as what its bytes mean, or this is the first rule that it breaks.
 -- Assumes nothing.
 use Prim.Native.Nat.{ℕ, _≤_}
 use mathlib.Core.Path.{_≡_, refl, sym, ap, _∙_, subst}
+use mathlib.Core.Logic.{inl, inr}
 use mathlib.Core.Bool.{false, not}
 use mathlib.Core.List.{List, [], _∷_, _++_, map}
 use native.Mathlib.Omega.{arith}
@@ -9,26 +10,26 @@ use lib.ListN.{length}
 use Rattle.std.specs.shelf.Lists.{All, Has}
 use Rattle.std.proofs.shelf.Lists.{append-nil, length-map}
 use Rattle.std.proofs.shelf.Ways.{tells}
-use Rattle.std.proofs.shelf.Elements.{all-append}
-use Rattle.model.specs.declared.types.Span.{Span}
+use Rattle.model.specs.declared.types.Fault.{Fault}
 use Rattle.model.specs.declared.types.Header.{Header}
 use Rattle.model.specs.Bytes.{piece, same-row}
-use Rattle.model.specs.Faults.{done, Check}
+use Rattle.model.specs.Faults.{Outcome, done, refused, then}
 use Rattle.model.specs.References.{end-of}
 use Rattle.model.specs.Headers.{header-span, most, file-type, file-format, header-at}
-use Rattle.model.specs.Nodes.{Node, referring}
-use Rattle.model.specs.Section.{Log, NodeList, Section, flat, list-fragments, first-of}
+use Rattle.model.specs.Section.{Log, NodeList, Section, list-fragments, first-of}
 use Rattle.model.specs.OpenedLog.{log-from, reading}
 use Rattle.model.specs.OpenedLists.{Named, named-first, lists-from}
-use Rattle.model.specs.Opened.{header-checks, data-checks, opened, all-data, last-part, part-lists, part-log}
-use Rattle.model.specs.Means.{Apart, Pairwise, Headed, Logs, named-in, Reached, by-header, data-spans, Means, In-order}
+use Rattle.model.specs.Opened.{header-checks, opened, last-part, part-lists, part-log}
+use Rattle.model.specs.Means.{Apart, Headed, Logs, named-in, Means, In-order}
+use Rattle.model.specs.Breaks.{Walked, Breaks, in-header, in-log, in-first, in-list, in-data}
 use Rattle.model.specs.Laws.{Opened-means, Same-lists}
-use Rattle.meaning.proofs.Base.{Clean, unless-done, then-done, all-front, overlaps-apart, references}
+use Rattle.meaning.proofs.Base.{Clean, unless-tells}
 use Rattle.meaning.proofs.Members.{has-from-in, in-from-has, in-map, all-in, all-from-in}
 use Rattle.meaning.proofs.ReadQueue.{spans}
-use Rattle.meaning.proofs.MeantOpens.{Opens, opened-step, means-opens, meant-opens, means-opens-in-order}
-use Rattle.meaning.proofs.StandLog.{logs-stand}
-use Rattle.meaning.proofs.StandQueue.{So-far, lists-stand}
+use Rattle.meaning.proofs.MeantOpens.{opened-step, means-opens, meant-opens, means-opens-in-order}
+use Rattle.meaning.proofs.TellLog.{Log-tells, log-told}
+use Rattle.meaning.proofs.TellQueue.{Broken-next, Lists-tell, lists-told}
+use Rattle.meaning.proofs.DataChecks.{data-tells, data-fits}
 
 -- header -----------------------------------------------------------------------------------------------------------
 
@@ -57,47 +58,6 @@ passes-headed b (x, (y, (z, (w, (u, (v, t)))))) = record {
   counts = grind (arith, tells);
 }
 
--- data -------------------------------------------------------------------------------------------------------------
-
-data-right : (end : ℕ) (fs : List Span) (id : ℕ) (ns : List Node) → Clean (data-checks end fs id ns)
-    → All (λ r. end-of r ≤ end) (map (λ n. n .reference) ns) × All (λ r. All (Apart r) (header-span ∷ fs)) (map (λ n. n .reference) ns)
-data-right end fs id [] c = (tt, tt)
-data-right end fs id (n ∷ ns) (x, (y, c)) =
-    let l : end-of (n .reference) ≤ end = grind (arith, tells) in
-    let (u, v) = data-right end fs id ns c in
-    ((l, u), (overlaps-apart (n .reference) fs y, v))
-
--- references to data that pass are right
-pub all-data-right : (end : ℕ) (fs : List Span) (ls : List NodeList) → Clean (flat (map (λ l. data-checks end fs (l .id) (referring 1 (l .nodes))) ls))
-    → All (λ r. end-of r ≤ end) (data-spans ls) × All (λ r. All (Apart r) (header-span ∷ fs)) (data-spans ls)
-all-data-right end fs [] c = (tt, tt)
-all-data-right end fs (l ∷ ls) c =
-    let (x, y) = all-front (λ (c : Check). c .0 ≡ false) (data-checks end fs (l .id) (referring 1 (l .nodes)))
-    (flat (map (λ (l : NodeList). data-checks end fs (l .id) (referring 1 (l .nodes))) ls)) c in
-    let (u, v) = data-right end fs (l .id) (referring 1 (l .nodes)) x in
-    let (z, w) = all-data-right end fs ls y in (
-      all-append (λ (r : Span). end-of r ≤ end) (references (l .nodes)) (data-spans ls) u z,
-      all-append (λ (r : Span). All (Apart r) (header-span ∷ fs)) (references (l .nodes)) (data-spans ls) v w,
-    )
-
--- opening ----------------------------------------------------------------------------------------------------------
-
-opens-with : (b : List ℕ) (s : Section) (log : Log) (ls : List NodeList) → Clean (header-checks b)
-    → log-from 2048 b (header-at b) [] 0xA0 (header-at b .log) (reading [] []) ≡ done log
-    → lists-from 1024 b (header-at b) log (named-first (header-at b)) [] ≡ done ls
-    → Clean (all-data (header-at b) log ls) → record { header = header-at b; log = log; lists = ls } ≡ s → Opens b s
-opens-with b s log ls c x y z e =
-    subst (λ (s : Section). Opens b s) e (record { checks = c; header = refl; log = x; lists = y; content = z })
-
-pub opens : (b : List ℕ) (s : Section) → opened b ≡ done s → Opens b s
-opens b s e =
-    let (c, d) = unless-done (header-checks b) (part-log b (header-at b)) s (sym (opened-step b) ∙ e) in
-    let (log, x, y) = then-done (log-from 2048 b (header-at b) [] 0xA0 (header-at b .log) (reading [] [])) (part-lists b (header-at b)) s d in
-    let (ls, z, w) = then-done (lists-from 1024 b (header-at b) log (named-first (header-at b)) []) (last-part (header-at b) log) s y in
-    let (k, v) = unless-done (all-data (header-at b) log ls) (done (record { header = header-at b; log = log; lists = ls })) s w in
-    let q : record { header = header-at b; log = log; lists = ls } ≡ s = cc in
-    opens-with b s log ls c x z k q
-
 -- the whole --------------------------------------------------------------------------------------------------------
 
 -- lists that name each of them, in their order
@@ -108,46 +68,61 @@ named-from-order h ls o = all-from-in (λ (q : Named). Has (map first-of ls) (q 
 once-from-order : (h : Header) (ls : List NodeList) → In-order h ls → length (named-in h ls) ≡ length ls
 once-from-order h ls o = sym (length-map (named-in h ls) (λ (q : Named). q .1)) ∙ sym (ap length o) ∙ length-map ls first-of
 
-first-reached : (h : Header) (ls : List NodeList) → All (λ q. Reached h ls (q .1)) (named-first h)
-first-reached h ls = all-from-in (λ (q : Named). Reached h ls (q .1)) (named-first h) (λ q i.
-    by-header (has-from-in (spans (named-first h)) (q .1) (in-map (λ (q : Named). q .1) (named-first h) q i)))
+-- what opening tells
+abbrev pub Tells : List ℕ → Outcome Section → Type 0
+Tells b (done s) = Means b s × In-order (s .header) (s .lists)
+Tells b (refused f) = Breaks b f
 
-opens-meant : (b : List ℕ) (s : Section) → Opens b s → Means b s × In-order (s .header) (s .lists)
-opens-meant b s o =
-    let h = s .header in
-    let log = s .log in
-    let headed : Headed b h = subst (λ (h : Header). Headed b h) (o .header) (passes-headed b (o .checks)) in
-    let logs : Logs b h log = logs-stand b h log (o .log) in
-    let nil = append-nil (log .fragments) in
-    let start : So-far b h log [] (named-first h) = record {
-      apart = subst (λ w. Pairwise Apart (header-span ∷ w)) (sym nil) (logs .part .apart);
-      ids = tt;
-      order = ap spans (append-nil (named-first h));
-      few = subst (λ w. length w ≤ 2048) (sym nil) (logs .part .few);
-      stands = tt;
-    } in
-    let r = lists-stand 1024 b h log (named-first h) [] (s .lists) start (o .lists) in
-    let order : In-order h (s .lists) = sym (r .far .order ∙ append-nil (map first-of (s .lists))) in
-    let (inside, apart) = all-data-right (h .end) (log .fragments ++ list-fragments (s .lists)) (s .lists) (o .content) in (
-      record {
-        header = headed;
-        log = logs;
-        lists = r .far .stands;
-        reached = subst (λ w. All (λ (l : NodeList). Reached h (s .lists) (first-of l)) w) (sym (r .is)) (r .reached (first-reached h (s .lists)));
-        named = named-from-order h (s .lists) order;
-        once = once-from-order h (s .lists) order;
-        ids-differ = r .far .ids;
-        fragments-apart = r .far .apart;
-        data-inside = inside;
-        data-apart = apart;
-        few-lists = subst (λ w. length w ≤ 1024) (sym (r .is)) (r .few-lists);
-        few-fragments = r .far .few;
-      },
-      order,
-    )
+module _ (b : List ℕ) (h : Header) (headed : Headed b h) where
+  last-tells : (log : Log) (ls : List NodeList) → Logs b h log → Walked b h log ls [] → Tells b (last-part h log ls)
+  last-tells log ls logs w =
+      let fs = log .fragments ++ list-fragments ls in
+      let order : In-order h ls = sym (w .order ∙ append-nil (map first-of ls)) in
+      data-tells h log ls (Tells b) _ (λ e d. in-data h log ls (d .before) (d .later) (d .n) headed logs w (d .is) (d .right) (d .breaks)) (λ r. (
+        record {
+          header = headed;
+          log = logs;
+          lists = w .lists;
+          reached = w .reached;
+          named = named-from-order h ls order;
+          once = once-from-order h ls order;
+          ids-differ = w .ids-differ;
+          fragments-apart = w .apart;
+          data-inside = data-fits (h .end) fs ls (λ r. end-of r ≤ h .end) (λ n d. d .inside) r;
+          data-apart = data-fits (h .end) fs ls (λ r. All (Apart r) (header-span ∷ fs)) (λ n d. d .apart) r;
+          few-lists = w .few-lists;
+          few-fragments = w .few;
+        },
+        order,
+      ))
+
+  broken-next : (log : Log) (e : Fault) → Logs b h log → Broken-next b h log e → Breaks b e
+  broken-next log e logs n = elim (n .breaks) [
+    | inl x ↦ in-first h log (n .ls) (n .q) (n .qs) headed logs (n .walked) x
+    | inr x ↦ in-list h log (n .ls) (n .q) (n .qs) headed logs (n .walked) x
+  ]
+
+  lists-tell : (log : Log) (a : Outcome (List NodeList)) → Logs b h log → Lists-tell b h log a → Tells b (then a (last-part h log))
+  lists-tell log (done ls) logs w = last-tells log ls logs w
+  lists-tell log (refused e) logs n = broken-next log e logs n
+
+  log-tells : (a : Outcome Log) → Log-tells b h a → Tells b (then a (part-lists b h))
+  log-tells (done log) logs = lists-tell log (lists-from 1024 b h log (named-first h) []) logs (lists-told b h log logs)
+  log-tells (refused e) w = in-log h headed w
+
+pub opened-tells : (b : List ℕ) → Tells b (opened b)
+opened-tells b =
+    let h = header-at b in
+    subst (Tells b) (sym (opened-step b)) (unless-tells (Tells b) (header-checks b) (part-log b h)
+    (λ f w. in-header (w .before) (w .later) (w .clean) (w .is)) (λ c.
+    let headed = passes-headed b c in
+    log-tells b h headed (log-from 2048 b h [] 0xA0 (h .log) (reading [] [])) (log-told b h refl (headed .counts))))
 
 pub opens-means : (b : List ℕ) (s : Section) → opened b ≡ done s → Means b s × In-order (s .header) (s .lists)
-opens-means b s e = opens-meant b s (opens b s e)
+opens-means b s e = subst (Tells b) e (opened-tells b)
+
+pub refusal-told : (b : List ℕ) (f : Fault) → opened b ≡ refused f → Breaks b f
+refusal-told b f e = subst (Tells b) e (opened-tells b)
 
 pub opened-means : Opened-means
 opened-means b s = (opens-means b s, λ m. means-opens-in-order b s (m .0) (m .1))

@@ -7,9 +7,9 @@ use mathlib.Core.Bool.{false}
 use mathlib.Core.List.{List, [], _∷_, _++_, map}
 use native.Mathlib.Omega.{arith}
 use lib.Dec.{eqb}
-use lib.ListN.{length, getD}
+use lib.ListN.{length, getD, drop}
 use Rattle.std.specs.shelf.Lists.{All, Has}
-use Rattle.std.proofs.shelf.Lists.{append-assoc, append-nil, length-append, length-map, map-append, append-cancel-left}
+use Rattle.std.proofs.shelf.Lists.{append-assoc, append-nil, length-append, length-map, length-push, length-drop, drop-drop, drop-append-le, map-append, append-cancel-left}
 use Rattle.std.proofs.shelf.Ways.{tells}
 use Rattle.std.proofs.shelf.Tests.{or-from}
 use Rattle.std.proofs.shelf.Elements.{all-weaker}
@@ -22,6 +22,7 @@ use Rattle.model.specs.ListFragments.{owner}
 use Rattle.model.specs.Section.{Log, NodeList, flat, count-in, list-fragments, first-of}
 use Rattle.model.specs.OpenedLists.{taken, list-from, Named, named-by, named-first, lists-from, named-list}
 use Rattle.model.specs.Means.{Apart, Pairwise, Spread, Numbered, Stands, named-in, Reached, by-header, by-node, In-order}
+use Rattle.model.specs.Breaks.{Walked}
 use Rattle.meaning.proofs.Base.{pairs-split, pairs-move-in, apart-back, Cross}
 use Rattle.meaning.proofs.Members.{In, in-from-has, in-left, in-right, in-cases, in-map, in-unmap, in-flat, in-unflat, all-in, all-from-in, pick, in-without, in-with, in-at, pigeon, same-by-key, flat-append}
 use Rattle.meaning.proofs.ReadList.{stands-read}
@@ -141,19 +142,20 @@ unfolding lists-from
 lists-end n b h log ls = refl
 
 -- a list that stands behind those read is read
-pub next-read : (b : List ℕ) (h : Header) (log : Log) (S ls rest : List NodeList) (q : Named) (l : NodeList)
-    → Stock h log S (ls ++ (l ∷ rest)) → Stands b h log l → first-of l ≡ q .1 → named-list b h log ls q (owner b (q .1)) ≡ done l
-next-read b h log S ls rest q l k s e =
+next-read : (b : List ℕ) (h : Header) (log : Log) (ls rest : List NodeList) (q : Named) (l : NodeList)
+    → Pairwise (λ l m. l .id ≢ m .id) (ls ++ (l ∷ rest)) → Pairwise Apart (header-span ∷ (log .fragments ++ list-fragments (ls ++ (l ∷ rest))))
+    → length (log .fragments ++ list-fragments (ls ++ (l ∷ rest))) ≤ 2048 → Stands b h log l → first-of l ≡ q .1 → named-list b h log ls q (owner b (q .1)) ≡ done l
+next-read b h log ls rest q l ids fs-apart fs-few s e =
     let before = log .fragments ++ list-fragments ls in
     let id : owner b (q .1) ≡ l .id = ap (λ f. owner b f) (sym e) ∙ owner-first b h log l s in
     let whole : log .fragments ++ list-fragments (ls ++ (l ∷ rest)) ≡ (before ++ l .fragments) ++ list-fragments rest
     = ap (λ w. log .fragments ++ w) (flat-append (λ l. l .fragments) ls (l ∷ rest)) ∙ sym (append-assoc (log .fragments) (list-fragments ls) (l .fragments ++ list-fragments rest))
     ∙ sym (append-assoc before (l .fragments) (list-fragments rest)) in
     let apart : Pairwise Apart (header-span ∷ (before ++ l .fragments))
-    = pairs-split Apart (header-span ∷ (before ++ l .fragments)) (list-fragments rest) (subst (λ w. Pairwise Apart (header-span ∷ w)) whole (k .apart)) .0 in
+    = pairs-split Apart (header-span ∷ (before ++ l .fragments)) (list-fragments rest) (subst (λ w. Pairwise Apart (header-span ∷ w)) whole fs-apart) .0 in
     let new : taken (l .id) ls ≡ false
-    = not-taken (l .id) ls (cross-one (λ l m. l .id ≢ m .id) ls rest l (pairs-split (λ l m. l .id ≢ m .id) ls (l ∷ rest) (k .ids) .2)) in
-    let few : length ((before ++ l .fragments) ++ list-fragments rest) ≤ 2048 = subst (λ w. length w ≤ 2048) whole (k .few) in
+    = not-taken (l .id) ls (cross-one (λ l m. l .id ≢ m .id) ls rest l (pairs-split (λ l m. l .id ≢ m .id) ls (l ∷ rest) ids .2)) in
+    let few : length ((before ++ l .fragments) ++ list-fragments rest) ≤ 2048 = subst (λ w. length w ≤ 2048) whole fs-few in
     let x = length-append (before ++ l .fragments) (list-fragments rest) in
     let y = length-append before (l .fragments) in
     ap (λ i. named-list b h log ls q i) id
@@ -258,34 +260,39 @@ order-more h ls q qs l o e =
     ∙ ap (λ w. map first-of (ls ++ (l ∷ [])) ++ w) (sym (map-append (λ (q : Named). q .1) qs (named-by l)))
 
 -- where nothing is left in the queue, each reached list is read
-reached-read : (b : List ℕ) (h : Header) (log : Log) (S ls rest : List NodeList) (r : Span) → Right b h log S → Stock h log S (ls ++ rest) → Order h ls []
-    → Reached h S r → In r (map first-of ls)
-reached-read b h log S ls rest r g k o (by-header x) =
-    let (q, i, e) = in-unmap (λ (q : Named). q .1) (named-first h) r (in-from-has (spans (named-first h)) r x) in
-    let j : In r (spans (named-in h ls)) = subst (λ w. In w (spans (named-in h ls))) e (in-map (λ (q : Named). q .1) (named-in h ls) q (in-left (named-first h) (flat (map named-by ls)) q i)) in
-    subst (λ w. In r w) (o ∙ append-nil (map first-of ls)) j
-reached-read b h log S ls rest r g k o (by-node {l = l} x y z) =
-    let (m, i, e) = in-unmap first-of ls (first-of l) (reached-read b h log S ls rest (first-of l) g k o y) in
-    let inl′ : In l S = in-from-has S l x in
-    let inm : In m S = k .to m (in-left ls rest m i) in
-    let id : m .id ≡ l .id = sym (owner-first b h log m (all-in (λ m. Stands b h log m) S m (g .stands) inm)) ∙ ap (λ f. owner b f) e
-    ∙ owner-first b h log l (all-in (λ m. Stands b h log m) S l (g .stands) inl′) in
-    let same : m ≡ l = same-by-key (λ (l : NodeList). l .id) (ls ++ rest) m l (k .ids) (in-left ls rest m i) (k .from l inl′) id in
-    let i′ : In l ls = subst (λ w. In w ls) same i in
-    let (q, j, w) = in-unmap (λ (q : Named). q .1) (named-by l) r (in-from-has (spans (named-by l)) r z) in
-    let j′ : In r (spans (named-in h ls)) = subst (λ w. In w (spans (named-in h ls))) w (in-map (λ (q : Named). q .1) (named-in h ls) q
-    (in-right (named-first h) (flat (map named-by ls)) q (in-flat named-by ls l q i′ j))) in
-    subst (λ w. In r w) (o ∙ append-nil (map first-of ls)) j′
+module _ (b : List ℕ) (h : Header) (log : Log) (S ls rest : List NodeList) (stands : All (Stands b h log) S) (ids : Pairwise (λ l m. l .id ≢ m .id) (ls ++ rest))
+    (from : (l : NodeList) → In l S → In l (ls ++ rest)) (to : (l : NodeList) → In l (ls ++ rest) → In l S) (o : Order h ls []) where
+  id-of : (l : NodeList) → In l S → owner b (first-of l) ≡ l .id
+  id-of l i = owner-first b h log l (all-in (λ m. Stands b h log m) S l stands i)
 
-all-read : (b : List ℕ) (h : Header) (log : Log) (S ls rest : List NodeList) → Right b h log S → Stock h log S (ls ++ rest) → Order h ls [] → rest ≡ []
-all-read b h log S ls [] g k o = refl
-all-read b h log S ls (l ∷ rest) g k o =
-    let i : In l S = k .to l (in-right ls (l ∷ rest) l (inl refl)) in
-    let (m, j, e) = in-unmap first-of ls (first-of l) (reached-read b h log S ls (l ∷ rest) (first-of l) g k o (all-in (λ l. Reached h S (first-of l)) S l (g .reached) i)) in
-    let inm : In m S = k .to m (in-left ls (l ∷ rest) m j) in
-    let id : m .id ≡ l .id = sym (owner-first b h log m (all-in (λ m. Stands b h log m) S m (g .stands) inm)) ∙ ap (λ f. owner b f) e
-    ∙ owner-first b h log l (all-in (λ m. Stands b h log m) S l (g .stands) i) in
-    let d : m .id ≢ l .id = all-in (λ m. m .id ≢ l .id) ls m (cross-one (λ l m. l .id ≢ m .id) ls rest l (pairs-split (λ l m. l .id ≢ m .id) ls (l ∷ rest) (k .ids) .2)) j in
+  reached-read : (r : Span) → Reached h S r → In r (map first-of ls)
+  reached-read r (by-header x) =
+      let (q, i, e) = in-unmap (λ (q : Named). q .1) (named-first h) r (in-from-has (spans (named-first h)) r x) in
+      let j : In r (spans (named-in h ls)) = subst (λ w. In w (spans (named-in h ls))) e (in-map (λ (q : Named). q .1) (named-in h ls) q (in-left (named-first h) (flat (map named-by ls)) q i)) in
+      subst (λ w. In r w) (o ∙ append-nil (map first-of ls)) j
+  reached-read r (by-node {l = l} x y z) =
+      let (m, i, e) = in-unmap first-of ls (first-of l) (reached-read (first-of l) y) in
+      let inl′ : In l S = in-from-has S l x in
+      let inm : In m S = to m (in-left ls rest m i) in
+      let id : m .id ≡ l .id = sym (id-of m inm) ∙ ap (λ f. owner b f) e ∙ id-of l inl′ in
+      let same : m ≡ l = same-by-key (λ (l : NodeList). l .id) (ls ++ rest) m l ids (in-left ls rest m i) (from l inl′) id in
+      let i′ : In l ls = subst (λ w. In w ls) same i in
+      let (q, j, w) = in-unmap (λ (q : Named). q .1) (named-by l) r (in-from-has (spans (named-by l)) r z) in
+      let j′ : In r (spans (named-in h ls)) = subst (λ w. In w (spans (named-in h ls))) w (in-map (λ (q : Named). q .1) (named-in h ls) q
+      (in-right (named-first h) (flat (map named-by ls)) q (in-flat named-by ls l q i′ j))) in
+      subst (λ w. In r w) (o ∙ append-nil (map first-of ls)) j′
+
+-- so no list is left
+all-read : (b : List ℕ) (h : Header) (log : Log) (S ls rest : List NodeList) → All (Stands b h log) S → All (λ l. Reached h S (first-of l)) S
+    → Pairwise (λ l m. l .id ≢ m .id) (ls ++ rest) → ((l : NodeList) → In l S → In l (ls ++ rest)) → ((l : NodeList) → In l (ls ++ rest) → In l S) → Order h ls [] → rest ≡ []
+all-read b h log S ls [] stands reached ids from to o = refl
+all-read b h log S ls (l ∷ rest) stands reached ids from to o =
+    let i : In l S = to l (in-right ls (l ∷ rest) l (inl refl)) in
+    let (m, j, e) = in-unmap first-of ls (first-of l) (reached-read b h log S ls (l ∷ rest) stands ids from to o (first-of l) (all-in (λ l. Reached h S (first-of l)) S l reached i)) in
+    let inm : In m S = to m (in-left ls (l ∷ rest) m j) in
+    let id : m .id ≡ l .id = sym (owner-first b h log m (all-in (λ m. Stands b h log m) S m stands inm)) ∙ ap (λ f. owner b f) e
+    ∙ owner-first b h log l (all-in (λ m. Stands b h log m) S l stands i) in
+    let d : m .id ≢ l .id = all-in (λ m. m .id ≢ l .id) ls m (cross-one (λ l m. l .id ≢ m .id) ls rest l (pairs-split (λ l m. l .id ≢ m .id) ls (l ∷ rest) ids .2)) j in
     absurd (d id)
 
 -- what reading the lists gives
@@ -294,7 +301,7 @@ Lists-read n b h log S qs ls = (T : List NodeList) × (lists-from n b h log qs l
 
 lists-over : (n : ℕ) (b : List ℕ) (h : Header) (log : Log) (S ls rest : List NodeList) → Right b h log S → Stock h log S (ls ++ rest) → Order h ls [] → Lists-read n b h log S [] ls
 lists-over n b h log S ls rest g k o =
-    let e = all-read b h log S ls rest g k o in
+    let e = all-read b h log S ls rest (g .stands) (g .reached) (k .ids) (k .from) (k .to) o in
     let w : ls ++ rest ≡ ls = ap (λ w. ls ++ w) e ∙ append-nil ls in
     (ls, lists-end n b h log ls, subst (λ w. Stock h log S w) w k, sym (o ∙ append-nil (map first-of ls)))
 
@@ -318,33 +325,63 @@ lists-read (suc n) b h log S ls rest (q ∷ qs) g k o n≤ =
     let x : length rest ≡ length (as′ ++ (l ∷ bs)) = ap length w in
     let y = length-append as′ (l ∷ bs) in
     let z = length-append as′ bs in
-    lists-next n b h log S ls q qs l (next-read b h log S ls (as′ ++ bs) q l k′ s e)
+    lists-next n b h log S ls q qs l (next-read b h log ls (as′ ++ bs) q l (k′ .ids) (k′ .apart) (k′ .few) s e)
     (lists-read n b h log S (ls ++ (l ∷ [])) (as′ ++ bs) (qs ++ named-by l) g k″ (order-more h ls q qs l o e) (omega arith))
 
 -- lists that already stand in that order -----------------------------------------------------------------------------------
 
-ordered-head : (h : Header) (ls rest : List NodeList) (q : Named) (qs : List Named) → Order h ls (q ∷ qs) → In-order h (ls ++ rest)
-    → map first-of rest ≡ q .1 ∷ (spans qs ++ spans (flat (map named-by rest)))
-ordered-head h ls rest q qs o i =
-    append-cancel-left (map first-of ls) (map first-of rest) (q .1 ∷ (spans qs ++ spans (flat (map named-by rest))))
-    (sym (map-append first-of ls rest) ∙ i ∙ named-append h ls rest ∙ ap (λ w. w ++ spans (flat (map named-by rest))) o
-    ∙ append-assoc (map first-of ls) (q .1 ∷ spans qs) (spans (flat (map named-by rest))))
+-- the queue is what is named behind the lists read
+named-push : (h : Header) (ls : List NodeList) (l : NodeList) → named-in h (ls ++ (l ∷ [])) ≡ named-in h ls ++ named-by l
+named-push h ls l =
+    ap (λ w. named-first h ++ w) (flat-append named-by ls (l ∷ []) ∙ ap (λ w. flat (map named-by ls) ++ w) (append-nil (named-by l)))
+    ∙ sym (append-assoc (named-first h) (flat (map named-by ls)) (named-by l))
 
-pub lists-read-in-order : (n : ℕ) (b : List ℕ) (h : Header) (log : Log) (S ls rest : List NodeList) (qs : List Named) → Right b h log S → Stock h log S (ls ++ rest) → Order h ls qs
-    → In-order h (ls ++ rest) → length rest ≤ n → lists-from n b h log qs ls ≡ done (ls ++ rest)
-lists-read-in-order n b h log S ls rest [] g k o i n≤ =
-    lists-end n b h log ls ∙ ap done (sym (ap (λ w. ls ++ w) (all-read b h log S ls rest g k o) ∙ append-nil ls))
-lists-read-in-order n b h log S ls [] (q ∷ qs) g k o i n≤ = absurd (
-    let e : [] ≡ q .1 ∷ (spans qs ++ []) = ordered-head h ls [] q qs o i in
-    grind arith)
-lists-read-in-order zero b h log S ls (l ∷ rest) (q ∷ qs) g k o i n≤ = absurd (omega arith)
-lists-read-in-order (suc n) b h log S ls (l ∷ rest) (q ∷ qs) g k o i n≤ =
-    let w : first-of l ∷ map first-of rest ≡ q .1 ∷ (spans qs ++ spans (flat (map named-by (l ∷ rest)))) = ordered-head h ls (l ∷ rest) q qs o i in
-    let e : first-of l ≡ q .1 = cc in
-    let s : Stands b h log l = all-in (λ m. Stands b h log m) S l (g .stands) (k .to l (in-right ls (l ∷ rest) l (inl refl))) in
-    let a : (ls ++ (l ∷ [])) ++ rest ≡ ls ++ (l ∷ rest) = append-assoc ls (l ∷ []) rest in
-    lists-step n b h log q qs ls
-    ∙ ap (λ x. then x (λ l. lists-from n b h log (qs ++ named-by l) (ls ++ (l ∷ [])))) (next-read b h log S ls rest q l k s e)
-    ∙ lists-read-in-order n b h log S (ls ++ (l ∷ [])) rest (qs ++ named-by l) g (subst (λ w. Stock h log S w) (sym a) k) (order-more h ls q qs l o e)
-    (subst (λ w. In-order h w) (sym a) i) (omega arith)
-    ∙ ap done a
+behind-more : {X : Type 0} (n : ℕ) (xs ys : List X) (q : X) (qs : List X) → q ∷ qs ≡ drop n xs → qs ++ ys ≡ drop (n + 1) (xs ++ ys)
+behind-more n xs ys q qs e =
+    let x : suc (length qs) ≡ length (drop n xs) = ap length e in
+    let y = length-drop n xs in
+    ap (λ w. w ++ ys) (ap (drop 1) e ∙ drop-drop 1 n xs) ∙ sym (drop-append-le (n + 1) xs ys (omega arith))
+
+pub fields-more : (h : Header) (ls : List NodeList) (q : Named) (qs : List Named) (l : NodeList) → q ∷ qs ≡ drop (length ls) (named-in h ls)
+    → qs ++ named-by l ≡ drop (length (ls ++ (l ∷ []))) (named-in h (ls ++ (l ∷ [])))
+fields-more h ls q qs l e =
+    let n : length (ls ++ (l ∷ [])) ≡ length ls + 1 = length-push ls l in
+    behind-more (length ls) (named-in h ls) (named-by l) q qs e ∙ sym (ap (λ z. drop z (named-in h (ls ++ (l ∷ [])))) n ∙ ap (drop (length ls + 1)) (named-push h ls l))
+
+-- what the queue names first is the list that stands next
+next-named : (h : Header) (ls rest : List NodeList) (l : NodeList) (q : Named) (qs queue : List Named) → Order h ls (q ∷ qs) → Order h (ls ++ (l ∷ rest)) queue → first-of l ≡ q .1
+next-named h ls rest l q qs queue o i =
+    let E = spans (flat (map named-by (l ∷ rest))) in
+    let w : first-of l ∷ (map first-of rest ++ spans queue) ≡ q .1 ∷ (spans qs ++ E)
+    = append-cancel-left (map first-of ls) (map first-of (l ∷ rest) ++ spans queue) (q .1 ∷ (spans qs ++ E))
+    (sym (append-assoc (map first-of ls) (map first-of (l ∷ rest)) (spans queue)) ∙ ap (λ w. w ++ spans queue) (sym (map-append first-of ls (l ∷ rest)))
+    ∙ sym i ∙ named-append h ls (l ∷ rest) ∙ ap (λ w. w ++ E) o ∙ append-assoc (map first-of ls) (q .1 ∷ spans qs) E) in
+    cc
+
+module _ (b : List ℕ) (h : Header) (log : Log) (T : List NodeList) (queue : List Named) (w : Walked b h log T queue) where
+  walked-on : (n m : ℕ) (ls rest : List NodeList) (qs : List Named) → ls ++ rest ≡ T → Order h ls qs → qs ≡ drop (length ls) (named-in h ls) → n ≡ length rest + m
+      → lists-from n b h log qs ls ≡ lists-from m b h log queue T
+  walked-on n m ls [] qs e o f l =
+      let t : ls ≡ T = sym (append-nil ls) ∙ e in
+      let q : qs ≡ queue = f ∙ ap (λ z. drop (length z) (named-in h z)) t ∙ sym (w .fields) in
+      let k : n ≡ m = omega arith in
+      ap (λ z. lists-from z b h log qs ls) k ∙ ap (λ z. lists-from m b h log z ls) q ∙ ap (λ z. lists-from m b h log queue z) t
+  walked-on zero m ls (r ∷ rest) qs e o f l = absurd (omega arith)
+  walked-on (suc n) m ls (r ∷ rest) [] e o f l =
+      let none = all-read b h log T ls (r ∷ rest) (w .lists) (w .reached) (subst (λ z. Pairwise (λ l m. l .id ≢ m .id) z) (sym e) (w .ids-differ))
+      (λ l i. subst (λ z. In l z) (sym e) i) (λ l i. subst (λ z. In l z) e i) o in
+      absurd (let z : suc (length rest) ≡ 0 = ap length none in omega arith)
+  walked-on (suc n) m ls (r ∷ rest) (q ∷ qs) e o f l =
+      let first = next-named h ls rest r q qs queue o (subst (λ z. Order h z queue) (sym e) (w .order)) in
+      let stands = all-in (λ m. Stands b h log m) T r (w .lists) (subst (λ z. In r z) e (in-at ls rest r)) in
+      lists-step n b h log q qs ls
+      ∙ ap (λ x. then x (λ l. lists-from n b h log (qs ++ named-by l) (ls ++ (l ∷ []))))
+      (next-read b h log ls rest q r (subst (λ z. Pairwise (λ l m. l .id ≢ m .id) z) (sym e) (w .ids-differ))
+      (subst (λ z. Pairwise Apart (header-span ∷ (log .fragments ++ list-fragments z))) (sym e) (w .apart)) (subst (λ z. length (log .fragments ++ list-fragments z) ≤ 2048) (sym e) (w .few)) stands first)
+      ∙ walked-on n m (ls ++ (r ∷ [])) rest (qs ++ named-by r) (append-assoc ls (r ∷ []) rest ∙ e) (order-more h ls q qs r o first) (fields-more h ls q qs r f) (omega arith)
+
+  -- the lists T are read, and then the queue
+  pub walked-read : lists-from 1024 b h log (named-first h) [] ≡ lists-from (1024 - length T) b h log queue T
+  walked-read =
+      let few = w .few-lists in
+      walked-on 1024 (1024 - length T) [] T (named-first h) refl (ap spans (append-nil (named-first h))) (sym (append-nil (named-first h))) (omega arith)
