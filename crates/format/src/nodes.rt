@@ -61,11 +61,17 @@ pub fn node_at<S: Store>(store: &S, place: u64) -> NodeHead {
     fetch(store, place, &mut bytes);
     let (head, rest) = match split(&bytes) {
         Some(pair) => pair,
-        None => return NodeHead { head: fields(0), reference: Span { start: 0, size: 0 } },
+        None => return NodeHead {
+            head: fields(0),
+            reference: Span { start: 0, size: 0 },
+        },
     };
     let (start, size) = match head.base {
         1 | 2 => reference(rest, head.stp, head.cb).unwrap_or((0, 0)),
         _ => (0, 0),
     };
-    NodeHead { head, reference: Span { start, size } }
+    NodeHead {
+        head,
+        reference: Span { start, size },
+    }
 }

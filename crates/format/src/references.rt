@@ -15,7 +15,10 @@ pub fn span_at<S: Store>(store: &S, place: u64) -> Span
 {
     let mut bytes = [0u8; 12];
     fetch(store, place, &mut bytes);
-    Span { start: number(&bytes, 0, 8), size: number(&bytes, 8, 4) }
+    Span {
+        start: number(&bytes, 0, 8),
+        size: number(&bytes, 8, 4),
+    }
 }
 
 // The number of `n` bytes at `p`, the lowest byte first.

@@ -31,14 +31,22 @@ pub fn push_listing(out: &mut String, figures: Figures, lists: &[Row]) -> Result
     ];
     push_line(out, &first)?;
     for row in lists {
-        push_line(out, &[row.id as u64, row.nodes as u64, row.fragments as u64])?;
+        push_line(
+            out,
+            &[row.id as u64, row.nodes as u64, row.fragments as u64],
+        )?;
     }
     Ok(())
 }
 
 /// Appends what a refusal tells: number, layer, place, list.
 pub fn push_refusal(out: &mut String, fault: Fault) -> Result<(), AllocError> {
-    let told = [fault.number as u64, fault.layer as u64, fault.place, fault.list as u64];
+    let told = [
+        fault.number as u64,
+        fault.layer as u64,
+        fault.place,
+        fault.list as u64,
+    ];
     push_line(out, &told)
 }
 

@@ -74,10 +74,16 @@ fn check_nodes<S: Store>(
 
 fn check_reference(end: u64, room: &Room, list: u32, field: u64, span: Span) -> Result<(), InList> {
     if passes(end, span) {
-        return Err(InList { fault: ListFault::Outside { place: field }, list });
+        return Err(InList {
+            fault: ListFault::Outside { place: field },
+            list,
+        });
     }
     if is_in_header(span) || room.ranges.meets(span) {
-        return Err(InList { fault: ListFault::Overlap { place: field }, list });
+        return Err(InList {
+            fault: ListFault::Overlap { place: field },
+            list,
+        });
     }
     Ok(())
 }

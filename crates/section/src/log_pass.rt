@@ -21,7 +21,11 @@ const LEAST: u64 = 12;
 const FIELD: u64 = 0xA0;
 
 // Reads the finished log, and answers how many entries of its last fragment are used.
-pub(crate) fn read_log<S: Store>(store: &S, header: &Header, room: &mut Room) -> Result<u64, LogFault>
+pub(crate) fn read_log<S: Store>(
+    store: &S,
+    header: &Header,
+    room: &mut Room,
+) -> Result<u64, LogFault>
     requires { ⌜ now header .end ≤ 2 ^ 40 ⌝ }
 {
     let mut field = FIELD;

@@ -2,6 +2,12 @@
 
 #[cfg(test)]
 mod tests {
+    use card_store::Card;
+    use card_store::CardSaving;
+    use card_store::CardStore;
+    use cover_store::Cover;
+    use cover_store::CoverSaving;
+    use cover_store::CoverStore;
     use model::types::Fault;
     use model::types::FaultDebug;
     use model::types::FaultPartialEq;
@@ -11,12 +17,6 @@ mod tests {
     use store::base::Store;
     use store::base::StoreFault;
     use store::base::StoreFaultDebug;
-    use card_store::Card;
-    use card_store::CardSaving;
-    use card_store::CardStore;
-    use cover_store::Cover;
-    use cover_store::CoverSaving;
-    use cover_store::CoverStore;
     use store::echoes::echo;
     use store::flat_store::Flat;
     use store::flat_store::FlatSaving;

@@ -1,4 +1,10 @@
 //! A section laid out in three kinds of store, read back, opened and listed; and one refusal of each layer.
+use card_store::Card;
+use card_store::CardSaving;
+use card_store::CardStore;
+use cover_store::Cover;
+use cover_store::CoverSaving;
+use cover_store::CoverStore;
 use lines::listed;
 use lines::words::word;
 use model::types::Fault;
@@ -10,12 +16,6 @@ use std::error::AnyError;
 use store::base::SavingStore;
 use store::base::Store;
 use store::base::StoreFault;
-use card_store::Card;
-use card_store::CardSaving;
-use card_store::CardStore;
-use cover_store::Cover;
-use cover_store::CoverSaving;
-use cover_store::CoverStore;
 use store::flat_store::Flat;
 use store::flat_store::FlatSaving;
 use store::flat_store::FlatStore;
@@ -64,7 +64,11 @@ fn read_back<S: Store>(rt: &LibcRuntime, store: &S) -> Result<Vec<u8>, AnyError>
 }
 
 // Lays the sample out, reads it back and lists it; answers the bytes and the listing.
-fn shown<S: SavingStore + Drop>(rt: &LibcRuntime, name: &str, mut store: S) -> Result<(Vec<u8>, String), AnyError> {
+fn shown<S: SavingStore + Drop>(
+    rt: &LibcRuntime,
+    name: &str,
+    mut store: S,
+) -> Result<(Vec<u8>, String), AnyError> {
     if let Err(fault) = lay_out(&mut store) {
         return Err(words_of(fault));
     }
@@ -82,9 +86,17 @@ fn shown<S: SavingStore + Drop>(rt: &LibcRuntime, name: &str, mut store: S) -> R
 }
 
 fn refusal(rt: &LibcRuntime, action: &str, fault: Fault) -> Result<(), AnyError> {
-    let Fault { number, layer, place, list } = fault;
+    let Fault {
+        number,
+        layer,
+        place,
+        list,
+    } = fault;
     let name = word(number);
-    println!(rt, "{action}: refused {number} {name} layer {layer} place {place} list {list}")?;
+    println!(
+        rt,
+        "{action}: refused {number} {name} layer {layer} place {place} list {list}"
+    )?;
     Ok(())
 }
 
@@ -111,7 +123,11 @@ fn refusals(rt: &LibcRuntime) -> Result<(), AnyError> {
     if let Err(fault) = store.read(END, 1, &mut byte) {
         refusal(rt, "read past the end", fault.told())?;
     }
-    if let Err(refused) = Card::new(vec![in rt.alloc(); 0u8; 1024]?, vec![in rt.alloc(); 1u32, 1]?, 0) {
+    if let Err(refused) = Card::new(
+        vec![in rt.alloc(); 0u8; 1024]?,
+        vec![in rt.alloc(); 1u32, 1]?,
+        0,
+    ) {
         refusal(rt, "a card with one block twice", refused.fault.told())?;
     }
     if let Err(refused) = Cover::new(store, 9) {

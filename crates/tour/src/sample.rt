@@ -8,20 +8,54 @@ use store::base::StoreFault;
 pub const END: u64 = 4112;
 
 const FILE_TYPE: [u8; 16] = [
-    0xE4, 0x52, 0x5C, 0x7B, 0x8C, 0xD8, 0xA7, 0x4D, 0xAE, 0xB1, 0x53, 0x78, 0xD0, 0x29, 0x96, 0xD3,
+    0xE4,
+    0x52,
+    0x5C,
+    0x7B,
+    0x8C,
+    0xD8,
+    0xA7,
+    0x4D,
+    0xAE,
+    0xB1,
+    0x53,
+    0x78,
+    0xD0,
+    0x29,
+    0x96,
+    0xD3,
 ];
 
 const FILE_FORMAT: [u8; 16] = [
-    0x3F, 0xDD, 0x9A, 0x10, 0x1B, 0x91, 0xF5, 0x49, 0xA5, 0xD0, 0x17, 0x91, 0xED, 0xC8, 0xAE, 0xD8,
+    0x3F,
+    0xDD,
+    0x9A,
+    0x10,
+    0x1B,
+    0x91,
+    0xF5,
+    0x49,
+    0xA5,
+    0xD0,
+    0x17,
+    0x91,
+    0xED,
+    0xC8,
+    0xAE,
+    0xD8,
 ];
 
 const FIRST_MARK: u64 = 0xA456_7AB1_F5F7_F4C4;
+
 const LAST_MARK: u64 = 0x8BC2_15C3_8233_BA4B;
 
 // The parts' places; each fragment has 1,024 bytes.
 const ROOT: u64 = 1024;
+
 const LOG: u64 = 2048;
+
 const BRANCH: u64 = 3072;
+
 const DATA: u64 = 4096;
 
 fn put_u32<S: SavingStore>(store: &mut S, place: u64, v: u32) -> Result<(), StoreFault> {
@@ -32,7 +66,12 @@ fn put_u64<S: SavingStore>(store: &mut S, place: u64, v: u64) -> Result<(), Stor
     store.write(place, &v.to_le_bytes())
 }
 
-fn put_reference<S: SavingStore>(store: &mut S, place: u64, start: u64, size: u32) -> Result<(), StoreFault>
+fn put_reference<S: SavingStore>(
+    store: &mut S,
+    place: u64,
+    start: u64,
+    size: u32,
+) -> Result<(), StoreFault>
     requires { ⌜ place < 5000 ⌝ }
 {
     put_u64(store, place, start)?;
