@@ -1,5 +1,4 @@
 -- Writes in one fragment and behind the end: what stays of a row.
--- Assumes nothing.
 use Prim.Native.Nat.{ℕ, _+_, _≤_}
 use mathlib.Core.Path.{refl, sym, _∙_}
 use mathlib.Core.Logic.{inl, inr}

@@ -1,5 +1,4 @@
 -- Numbers that are read from bytes fit into their widths: so do the list IDs and the counts of an accepted file.
--- Assumes nothing.
 use Prim.Native.Nat.{ℕ, zero, suc, _+_, _^_, _<_}
 use mathlib.Core.Path.{sym, _∙_, subst}
 use mathlib.Core.Logic.{inl, inr}

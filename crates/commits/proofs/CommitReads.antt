@@ -1,5 +1,4 @@
 -- After a commit the bytes open to a section with the count one higher, in which each list holds what it held and then the draft's nodes.
--- Assumes nothing.
 use Prim.Native.Nat.{ℕ, _≤_}
 use mathlib.Core.Path.{_≡_, refl, sym, ap, _∙_}
 use mathlib.Core.Logic.{_≢_, inl, inr}

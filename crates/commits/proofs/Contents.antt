@@ -1,5 +1,4 @@
 -- What lists hold: it is the same in a row that has their data, and one node or one list more adds to it at one ID.
--- Assumes nothing.
 use Prim.Native.Nat.{ℕ, _<_, _≤_}
 use mathlib.Core.Path.{_≡_, refl, sym, ap, subst, _∙_}
 use mathlib.Core.Logic.{_≢_, inl, inr}

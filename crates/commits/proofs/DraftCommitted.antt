@@ -1,5 +1,4 @@
 -- The commit of a draft: its transaction follows the finished log and counts its lists, and its writes make the whole.
--- Assumes nothing.
 use Prim.Native.Nat.{ℕ, _+_, _^_, _<_, _≤_}
 use mathlib.Core.Path.{_≡_, refl, sym, ap, _∙_, subst}
 use mathlib.Core.Logic.{_≢_, inl, inr}

@@ -1,5 +1,4 @@
 -- What the lists of a draft hold: what they held and then what is new for them.
--- Assumes nothing.
 use Prim.Native.Nat.{ℕ, _<_, _≤_}
 use mathlib.Core.Path.{_≡_, ap, _∙_}
 use mathlib.Core.Logic.{_≢_, inl, inr}

@@ -1,5 +1,4 @@
 -- The header after a commit's last write: the new fields, and the others as they were.
--- Assumes nothing.
 use Prim.Native.Nat.{ℕ, _+_, _^_, _<_, _≤_}
 use mathlib.Core.Path.{_≡_, sym, ap, _∙_}
 use mathlib.Core.Logic.{inl, inr}

@@ -1,5 +1,4 @@
 -- A commit's last write, that of the header, makes the whole.
--- Assumes nothing.
 use Prim.Native.Nat.{ℕ, _+_, _^_, _<_, _≤_}
 use mathlib.Core.Path.{_≡_}
 use mathlib.Core.Logic.{inl, inr}

@@ -1,5 +1,4 @@
 -- The log's writes of a commit, all cases: its entries fit into the last log fragment, or go on in a new one at the draft's end.
--- Assumes nothing.
 use Prim.Native.Nat.{ℕ, _+_, _-_, _*_, _%_, _<_, _≤_}
 use mathlib.Core.Path.{_≡_, refl, sym, ap, _∙_, subst}
 use mathlib.Core.Logic.{inl, inr}

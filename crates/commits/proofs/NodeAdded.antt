@@ -1,5 +1,4 @@
 -- One node more in a list: the bytes after the writes, and the list in them. It fits, or it goes into a new fragment.
--- Assumes nothing.
 use Prim.Native.Nat.{ℕ, _+_, _^_, _<_, _≤_}
 use mathlib.Core.Path.{_≡_, sym, _∙_}
 use mathlib.Core.Logic.{inl, inr}

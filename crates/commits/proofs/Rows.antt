@@ -1,5 +1,4 @@
 -- Lists in a row: what holds of each, and of each two, and one element put between.
--- Assumes nothing.
 use mathlib.Core.Path.{_≡_, ap}
 use mathlib.Core.List.{List, [], _∷_, _++_, map}
 use Rattle.std.specs.shelf.Lists.{All}

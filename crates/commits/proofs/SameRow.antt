@@ -1,5 +1,4 @@
 -- The lists, the log and the header stand in another row that has their bytes.
--- Assumes nothing.
 use Prim.Native.Nat.{ℕ, _+_, _≤_}
 use mathlib.Core.Path.{_≡_, sym, _∙_}
 use mathlib.Core.List.{List, [], _∷_}

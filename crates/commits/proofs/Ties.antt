@@ -1,5 +1,4 @@
 -- Which lists there are, after one node more: a node that names no list, or one that names a new list.
--- Assumes nothing.
 use Prim.Native.Nat.{_+_}
 use mathlib.Core.Path.{_≡_, refl, sym, ap, _∙_, subst}
 use mathlib.Core.Logic.{_⊎_, inl, inr}

@@ -1,5 +1,4 @@
 -- What an add or a commit's log writes leave of a row: everything before the draft's end but the room of one fragment.
--- Assumes nothing.
 use Prim.Native.Nat.{ℕ, _+_, _≤_, _<_}
 use mathlib.Core.Path.{_≡_}
 use mathlib.Core.Logic.{_⊎_}

@@ -1,5 +1,4 @@
 -- The lists of a file with a draft in it: what Means says of them, but for the counts, for bytes that a draft has grown.
--- Assumes nothing.
 use Prim.Native.Nat.{ℕ, _≤_, _<_}
 use mathlib.Core.Path.{_≡_}
 use mathlib.Core.Logic.{_≢_}

@@ -1,5 +1,4 @@
 -- One add over an accepted file: it keeps what is known of a draft's layout, and writes to the free zone only.
--- Assumes nothing.
 use Prim.Native.Nat.{ℕ, _+_, _<_, _≤_}
 use mathlib.Core.Path.{_≡_, refl, ap, _∙_}
 use mathlib.Core.Logic.{inl, inr}

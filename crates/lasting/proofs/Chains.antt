@@ -1,5 +1,4 @@
 -- Fragments of one list or of the log, one after the other: the last of them, and those before it.
--- Assumes nothing.
 use Prim.Native.Nat.{_≤_}
 use mathlib.Core.Path.{refl, subst}
 use mathlib.Core.Logic.{inl, inr}

@@ -1,5 +1,4 @@
 -- Whatever a cut in a call leaves opens as a finished file: the old one, or the new one where a commit's new header stands.
--- Assumes nothing but two laws of commit, which are parameters.
 use Prim.Native.Nat.{ℕ, _+_}
 use mathlib.Core.Path.{_≡_, refl, sym, ap, _∙_, subst}
 use mathlib.Core.Logic.{_⊎_, inl, inr}

@@ -1,5 +1,4 @@
 -- Every write of a draft over an accepted file, and every write of its commit but the header's, goes to the file's free zone.
--- Assumes nothing.
 use Prim.Native.Nat.{ℕ, _-_, _≤_}
 use mathlib.Core.Path.{_≡_, refl, sym, ap, _∙_}
 use mathlib.Core.Bool.{true, cond}

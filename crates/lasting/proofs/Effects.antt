@@ -1,5 +1,4 @@
 -- What a call does to an opened file: it leaves it, begins or ends a draft without a write, grows the draft, or commits it.
--- Assumes nothing.
 use Prim.Native.Nat.{ℕ, _+_, _^_}
 use mathlib.Core.Path.{_≡_, refl, sym, subst}
 use mathlib.Core.Bool.{not, _||_}

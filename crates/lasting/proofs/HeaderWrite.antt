@@ -1,5 +1,4 @@
 -- The write of the first 512 bytes: it has 512 bytes, at the place 0.
--- Assumes nothing.
 use Prim.Native.Nat.{ℕ, _+_, _<_, _≤_}
 use mathlib.Core.Path.{_≡_, refl}
 use mathlib.Core.List.{List, [], _∷_}

@@ -1,5 +1,4 @@
 -- The bytes of an accepted file with a draft in it hold the same finished file; and what stands after the next add, and after a commit.
--- Assumes nothing.
 use Prim.Native.Nat.{ℕ, _≤_}
 use mathlib.Core.Path.{_≡_, refl, sym, ap, _∙_, subst}
 use mathlib.Core.Bool.{false}

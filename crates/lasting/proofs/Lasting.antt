@@ -1,5 +1,4 @@
 -- Finished states last: journals, line by line, from what a call keeps of a sound state and what a cut in it leaves.
--- Assumes nothing but two laws of commit, which are parameters.
 use Prim.Native.Nat.{ℕ, zero, suc, _+_, _<_, _≤_}
 use mathlib.Core.Path.{refl, sym, _∙_, subst}
 use mathlib.Core.List.{List, [], _∷_, map}

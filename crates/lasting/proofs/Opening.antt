@@ -1,5 +1,4 @@
 -- Opening a file that is not opened, and looking at one that is.
--- Assumes nothing.
 use Prim.Native.Nat.{ℕ}
 use mathlib.Core.Path.{_≡_, refl}
 use mathlib.Core.List.{List, []}

@@ -1,5 +1,4 @@
 -- Where the last fragments of an accepted file stand, and what is used of them.
--- Assumes nothing.
 use Prim.Native.Nat.{ℕ, _<_, _≤_}
 use mathlib.Core.Path.{_≡_}
 use mathlib.Core.List.{List}

@@ -1,5 +1,4 @@
 -- What writes leave of a row: its length, the bytes outside them, and that it stays a row of bytes.
--- Assumes nothing.
 use Prim.Native.Nat.{ℕ, _+_, _<_, _≤_, max}
 use mathlib.Core.Path.{_≡_, refl, ap, _∙_}
 use mathlib.Core.Logic.{_⊎_, inl, inr}

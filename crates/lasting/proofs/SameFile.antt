@@ -1,5 +1,4 @@
 -- A row that has the bytes of an accepted file, on its footprint, opens as that file.
--- Assumes nothing.
 use Prim.Native.Nat.{ℕ, _+_, _-_, _*_, _≤_}
 use mathlib.Core.Path.{_≡_, sym}
 use mathlib.Core.List.{List, [], _∷_}

@@ -1,5 +1,4 @@
 -- Looks, and what a list holds, read nothing but the footprint: the law that only the footprint counts.
--- Assumes nothing.
 use Prim.Native.Nat.{ℕ, zero, suc, _≤_}
 use mathlib.Core.Path.{_≡_, refl, sym, ap}
 use mathlib.Core.Bool.{Bool, true, false, not, _||_}

@@ -1,5 +1,4 @@
 -- Every call keeps a sound state, and each look to a count up to its own; the store takes each of its writes.
--- Assumes nothing but, for commit, two laws, which are parameters.
 use Prim.Native.Nat.{ℕ, _+_, _≤_}
 use mathlib.Core.Path.{_≡_, refl, sym, ap, _∙_, subst}
 use mathlib.Core.List.{List, [], _∷_, _++_}

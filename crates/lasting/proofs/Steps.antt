@@ -1,5 +1,4 @@
 -- Writes that take a draft's end from one place to another, all of them in the free zone of the file.
--- Assumes nothing.
 use Prim.Native.Nat.{ℕ, _+_, _<_, _≤_, max}
 use mathlib.Core.Path.{_≡_}
 use mathlib.Core.List.{List, [], _∷_, _++_}

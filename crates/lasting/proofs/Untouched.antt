@@ -1,5 +1,4 @@
 -- Writes to the free zone of an accepted file, done or cut, leave the finished file as it was.
--- Assumes nothing.
 use Prim.Native.Nat.{ℕ, _≤_, max}
 use mathlib.Core.Path.{_≡_, _∙_}
 use mathlib.Core.Logic.{inl, inr}

@@ -1,5 +1,4 @@
 -- Outcomes, ranges apart, and lists whose elements stand apart pairwise.
--- Assumes nothing.
 use Prim.Native.Nat.{ℕ, _≤_}
 use mathlib.Core.Path.{_≡_, refl, ap}
 use mathlib.Core.Logic.{inl, inr}

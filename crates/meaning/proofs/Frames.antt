@@ -1,5 +1,4 @@
 -- What is read inside a range that is the same in two rows is the same: numbers, pieces, nodes.
--- Assumes nothing.
 use Prim.Native.Nat.{ℕ, zero, suc, _+_, _<_, _≤_}
 use mathlib.Core.Path.{_≡_, refl, _∙_}
 use mathlib.Core.List.{List}

@@ -1,5 +1,4 @@
 -- A node that is not refused is good, and the other way round.
--- Assumes nothing.
 use Prim.Native.Nat.{ℕ}
 use mathlib.Core.Path.{_≡_, refl}
 use mathlib.Core.Bool.{false}

@@ -1,5 +1,4 @@
 -- Chains of fragments that grow at their end: the row of a log, the nodes of a list.
--- Assumes nothing.
 use Prim.Native.Nat.{ℕ, zero, suc, _+_, _≤_}
 use mathlib.Core.Path.{_≡_, refl, sym, ap, _∙_, subst}
 use mathlib.Core.Bool.{true}

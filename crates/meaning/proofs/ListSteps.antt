@@ -1,5 +1,4 @@
 -- Reading a list, step by step: what its checks say, its first fragment, and a later one.
--- Assumes nothing.
 use Prim.Native.Nat.{ℕ, zero, suc, _-_, _≤_}
 use mathlib.Core.Path.{_≡_, refl}
 use mathlib.Core.Logic.{inl, inr}

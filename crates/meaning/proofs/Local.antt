@@ -1,5 +1,4 @@
 -- Nodes stand in another row that agrees on their fragments.
--- Assumes nothing.
 use Prim.Native.Nat.{ℕ, _+_, _≤_}
 use mathlib.Core.Path.{_≡_, ap, _∙_}
 use mathlib.Core.Bool.{true}

@@ -1,5 +1,4 @@
 -- Membership by recursion, the pigeonhole, and lists of lists.
--- Assumes nothing.
 use Prim.Native.Nat.{zero, suc, _≤_}
 use mathlib.Core.Path.{_≡_, refl, sym, ap, _∙_, subst}
 use mathlib.Core.Logic.{_≢_, _⊎_, inl, inr}

@@ -1,5 +1,4 @@
 -- What opening tells: the file is right, and is opened as what its bytes mean, or this is the first rule that it breaks.
--- Assumes nothing.
 use Prim.Native.Nat.{ℕ, _≤_}
 use mathlib.Core.Path.{_≡_, refl, sym, ap, _∙_, subst}
 use mathlib.Core.Logic.{inl, inr}

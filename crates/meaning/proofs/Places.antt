@@ -1,5 +1,4 @@
 -- Where a fragment may stand: the checks of its place, and what they say of it.
--- Assumes nothing.
 use Prim.Native.Nat.{ℕ, _<_, _≤_}
 use mathlib.Core.Path.{_≡_, _∙_}
 use mathlib.Core.Logic.{inl, inr}

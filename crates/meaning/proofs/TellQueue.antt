@@ -1,5 +1,4 @@
 -- What reading the lists tells: they stand, in the order in which they are named, or this is the first rule that is broken.
--- Assumes nothing.
 use Prim.Native.Nat.{ℕ, zero, suc, _+_, _-_, _≤_, _<_}
 use mathlib.Core.Path.{_≡_, refl, sym, ap, _∙_, subst}
 use mathlib.Core.Logic.{_≢_, inl}

@@ -1,5 +1,4 @@
 -- The first broken rule of two damaged files.
--- Assumes nothing.
 use Prim.Native.Nat.{ℕ}
 use mathlib.Core.Path.{refl}
 use mathlib.Core.List.{List, [], _∷_}

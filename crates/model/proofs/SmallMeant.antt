@@ -1,5 +1,4 @@
 -- The relation holds of the small file.
--- Assumes nothing.
 use mathlib.Core.Path.{refl}
 use mathlib.Core.List.{[]}
 use native.Mathlib.Omega.{arith}
