@@ -8,7 +8,7 @@ use store::flat_store::Flat;
 use store::flat_store::FlatStore;
 
 // The samples are numbered from 0 on.
-const SAMPLES: u32 = 66;
+const SAMPLES: u32 = 68;
 
 // A log of a sample has at most this many entries.
 const MOST_ENTRIES: usize = 8_192;
