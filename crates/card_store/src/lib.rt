@@ -15,7 +15,7 @@ use store::base::NotMade;
 use store::base::SavingStore;
 use store::base::Store;
 use store::base::StoreFault;
-use store::base::are_bytes;
+use store::base::is_empty_buffer;
 use store::base::has_room;
 
 #[derive(Drop)]
@@ -75,7 +75,7 @@ impl Card {
                 fault: StoreFault::Map,
             });
         }
-        let _ = are_bytes(buffer.as_slice());
+        let _ = is_empty_buffer(buffer.as_slice());
         Ok(Card {
             buffer,
             blocks,

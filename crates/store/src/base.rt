@@ -2,6 +2,7 @@
 ghost use mathlib.Core.Path.{_≡_};
 ghost use mathlib.Core.List.{List, [], _++_};
 ghost use Prim.Native.Nat.{ℕ, _+_, _^_, _≤_, _<_};
+ghost use lib.Dec.{eqb};
 ghost use lib.ListN.{length, getD};
 ghost use Rattle.std.specs.Orderings.{Decides};
 ghost use Rattle.model.specs.Bytes.{Write, put, applied};
@@ -91,9 +92,10 @@ pub trait SavingStore: Store {
         ensures trail { λ r. ⌜ wrote (now (self .entry)) (if-done r (put place (now (new .entry)))) (now (self .exit)) ⌝ };
 }
 
-/// That bytes are bytes: the call costs nothing, and its contract says it.
-pub fn are_bytes(v: &[u8]) -> bool
-    ensures { λ r. ⌜ ((k : ℕ) → getD (now (v .entry)) k 0 < 256) ⌝ }
+/// Whether a buffer is empty; and that each number in it is a byte, which is known only where it is lent as a slice.
+pub fn is_empty_buffer(v: &[u8]) -> bool
+    ensures value { λ r. ⌜ r ≡ eqb (length (now (v .entry))) 0 ⌝ }
+    ensures byte { λ r. ⌜ ((k : ℕ) → getD (now (v .entry)) k 0 < 256) ⌝ }
 {
     v.is_empty()
 }

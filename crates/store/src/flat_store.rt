@@ -12,7 +12,7 @@ use crate::base::NotMade;
 use crate::base::SavingStore;
 use crate::base::Store;
 use crate::base::StoreFault;
-use crate::base::are_bytes;
+use crate::base::is_empty_buffer;
 use crate::base::has_room;
 
 #[derive(Drop)]
@@ -34,7 +34,7 @@ impl Flat {
                 fault: StoreFault::Map,
             });
         }
-        let _ = are_bytes(buffer.as_slice());
+        let _ = is_empty_buffer(buffer.as_slice());
         Ok(Flat {
             buffer,
             len: len as usize,
@@ -62,7 +62,7 @@ impl Flat {
         let all = self.buffer.as_mut_slice();
         let into = &mut all[p..end];
         into.copy_from_slice(new);
-        let _ = are_bytes(self.buffer.as_slice());
+        let _ = is_empty_buffer(self.buffer.as_slice());
         self.len = self.len.max(end);
     }
 }
