@@ -15,8 +15,8 @@ use store::base::NotMade;
 use store::base::SavingStore;
 use store::base::Store;
 use store::base::StoreFault;
-use store::base::is_empty_buffer;
 use store::base::has_room;
+use store::base::is_empty_buffer;
 
 #[derive(Drop)]
 pub struct Card {

@@ -12,8 +12,8 @@ use crate::base::NotMade;
 use crate::base::SavingStore;
 use crate::base::Store;
 use crate::base::StoreFault;
-use crate::base::is_empty_buffer;
 use crate::base::has_room;
+use crate::base::is_empty_buffer;
 
 #[derive(Drop)]
 pub struct Flat {
