@@ -86,7 +86,7 @@ impl<S: Store> File<S> {
 
 // The header of a store whose first rules hold: long enough, of the type and the format, readable, and with a finished transaction.
 fn check_header<S: Store>(store: &S) -> Result<Header, HeaderFault>
-    ensures { λ r. ⌜ Cases r (λ h. h .end ≤ 2 ^ 40) (λ _. Unit {0}) ⌝ }
+    ensures { λ r. ⌜ Cases r (λ h. (h .end ≤ 2 ^ 40) × (1 ≤ h .count)) (λ _. Unit {0}) ⌝ }
 {
     let len = store.len();
     if len < 1024 {

@@ -1,7 +1,9 @@
 //! The room that opening works in: reserved at once, so that opening itself never wants memory.
 ghost use mathlib.Core.Path.{_≡_};
+ghost use mathlib.Core.List.{[]};
 ghost use Prim.Native.Nat.{_+_, _≤_};
 ghost use Rattle.std.specs.Of.Vec.{vec-items, vec-len, vec-cap};
+ghost use Rattle.std.specs.Vec.{made};
 ghost use Rattle.section.specs.Places.{Alike, Admits};
 use crate::places::Misplaced;
 use crate::places::is_in_header;
@@ -56,7 +58,15 @@ pub struct Room {
 
 impl Room {
     /// Room for a file whose finished log counts lists at most `changes` times.
-    pub fn new(heap: Global, changes: usize) -> Result<Room, AllocError> {
+    pub fn new(heap: Global, changes: usize) -> Result<Room, AllocError>
+        ensures changes { λ r. ⌜ made r (λ t. vec-items (t .counts .changes) ≡ []) ⌝ }
+        ensures noted { λ r. ⌜ made r (λ t. vec-len (t .counts .changes) ≡ 0) ⌝ }
+        ensures room { λ r. ⌜ made r (λ t. t .counts .room ≡ changes) ⌝ }
+        ensures finished { λ r. ⌜ made r (λ t. t .counts .finished ≡ 0) ⌝ }
+        ensures fragments { λ r. ⌜ made r (λ t. vec-items (t .fragments) ≡ []) ⌝ }
+        ensures lists { λ r. ⌜ made r (λ t. vec-items (t .lists) ≡ []) ⌝ }
+        ensures queue { λ r. ⌜ made r (λ t. vec-items (t .queue) ≡ []) ⌝ }
+    {
         Ok(Room {
             counts: Counts::new(heap, changes)?,
             ranges: Ranges::new(heap)?,
@@ -66,7 +76,16 @@ impl Room {
         })
     }
 
-    pub(crate) fn clear(&mut self) {
+    // Lets all go that was read; the room stays.
+    pub(crate) fn clear(&mut self)
+        ensures changes { λ _. ⌜ vec-items (now (self .exit) .counts .changes) ≡ [] ⌝ }
+        ensures noted { λ _. ⌜ vec-len (now (self .exit) .counts .changes) ≡ 0 ⌝ }
+        ensures room { λ _. ⌜ now (self .exit) .counts .room ≡ now (self .entry) .counts .room ⌝ }
+        ensures finished { λ _. ⌜ now (self .exit) .counts .finished ≡ 0 ⌝ }
+        ensures fragments { λ _. ⌜ vec-items (now (self .exit) .fragments) ≡ [] ⌝ }
+        ensures lists { λ _. ⌜ vec-items (now (self .exit) .lists) ≡ [] ⌝ }
+        ensures queue { λ _. ⌜ vec-items (now (self .exit) .queue) ≡ [] ⌝ }
+    {
         self.counts.clear();
         self.ranges.clear();
         self.fragments.clear();
