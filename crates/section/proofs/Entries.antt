@@ -1,14 +1,17 @@
 -- The entries of a log fragment, one after the other: what is left gives what the whole gives.
-use mathlib.Core.Path.{_≡_, refl, sym, ap, _∙_}
+use mathlib.Core.Path.{_≡_, refl, sym, ap, subst, _∙_}
 use mathlib.Core.Bool.{Bool, true, false, cond, not}
 use mathlib.Core.List.{List, [], _∷_, _++_, append-assoc, append-nil}
 use Prim.Native.Nat.{ℕ, suc, _+_, _-_, _≤_, _<_}
 use native.Mathlib.Omega.{arith}
 use lib.Dec.{eqb, leb}
 use lib.ListN.{length, getD}
+use Rattle.std.specs.declared.option.Option.{Option}
 use Rattle.std.specs.declared.option.Option.the-variants.{Some, None}
+use Rattle.std.specs.declared.result.Result.{Result}
 use Rattle.std.specs.declared.result.Result.the-variants.{Ok, Err}
 use Rattle.std.proofs.shelf.Lists.{length-append, getD-at}
+use Rattle.std.proofs.shelf.Tests.{true≢false, false≢true}
 use Rattle.model.specs.declared.types.Span.{Span}
 use Rattle.model.specs.declared.types.Entry.{Entry}
 use Rattle.model.specs.declared.types.Fault.{Fault}
@@ -147,6 +150,27 @@ module _ (b : List ℕ) (count : ℕ) (f : Span) (k : Reading) (len : ℕ) where
       going-wrong room h (log.Overlap p) m = wrong-told room h (log.Overlap p) m
       going-wrong room h (log.Full p) m = wrong-told room h (log.Full p) m
       going-wrong room h (log.Room p) (to, m, r, q) = wrong-room room p h to m r q
+
+      -- as the code comes to them
+      pub ends-at : (t : Bool) → t ≡ true → (ds : List Change) (n′ register′ room after′ : ℕ)
+          → Takes (met count (entry-place f i) e (g .to)) count (entry-place f i) room after ds n′ register′ after′ (Ok t)
+          → EntriesRead b count f room k len ds n′ register′ after′ (Ok (Some (i + 1)))
+      ends-at true q ds n′ register′ room after′ t = going-ends ds n′ register′ room after′ t
+      ends-at false q ds n′ register′ room after′ t = absurd (false≢true q)
+
+      pub more-at : (t : Bool) → t ≡ false → (ds : List Change) (n′ register′ room after′ : ℕ)
+          → Takes (met count (entry-place f i) e (g .to)) count (entry-place f i) room after ds n′ register′ after′ (Ok t)
+          → Going b count f (i + 1) k len ds n′ register′ after′
+      more-at false q ds n′ register′ room after′ t = going-more ds n′ register′ room after′ t
+      more-at true q ds n′ register′ room after′ t = absurd (true≢false q)
+
+      pub wrong-at : (room room′ : ℕ) → room ≡ room′ → after ≤ room → (x : LogFault) (r : Result (Option ℕ) LogFault) → r ≡ Err x → (ds : List Change) (n′ register′ after′ : ℕ)
+          → TakesWrong (met count (entry-place f i) e (g .to)) (entry-place f i) room after x
+          → EntriesRead b count f room′ k len ds n′ register′ after′ r
+      wrong-at room room′ q h x r z ds n′ register′ after′ t =
+          let P : Result (Option ℕ) LogFault → Type 0 = λ y. EntriesRead b count f room′ k len ds n′ register′ after′ y in
+          let Q : ℕ → Type 0 = λ y. EntriesRead b count f y k len ds n′ register′ after′ (Err x) in
+          subst P (sym z) (subst Q q (going-wrong room h x t))
 
     pub going-all : entries-in (f .size) ≤ i → (room : ℕ) → EntriesRead b count f room k len cs n register after (Ok None)
     unfolding log-entries counts-in
