@@ -180,7 +180,7 @@ module _ (b : List ℕ) (h : Header) (i : ℕ) (fs : List Span) (field : ℕ) (f
   counts : all-counts b h ≡ w .places ++ counts-met (suc (2047 - i)) b h fs field f (w .to)
   counts = let e : 2048 - i ≡ suc (2047 - i) = omega arith in sym (w .counted) ∙ ap (λ m. w .places ++ counts-met m b h fs field f (w .to)) e
 
-  pub walking-more : (room : ℕ) (gs : List Span) (ds : List Change) (n′ register′ after : ℕ)
+  walking-more : (room : ℕ) (gs : List Span) (ds : List Change) (n′ register′ after : ℕ)
       → FragmentRead (2047 - i) b h fs field f room (w .to) len gs ds n′ register′ after (Ok None)
       → Walking b h (i + 1) gs (log-next f) (span-at b (log-next f)) ds n′ register′ after
   walking-more room gs ds n′ register′ after (to, ps, e, c, d, a, s) =
@@ -196,7 +196,7 @@ module _ (b : List ℕ) (h : Header) (i : ℕ) (fs : List Span) (field : ℕ) (f
         size = s ∙ omega (arith, w .size);
       }
 
-  pub walking-ends : (room used : ℕ) (gs : List Span) (ds : List Change) (n′ register′ after : ℕ) → after ≤ room
+  walking-ends : (room used : ℕ) (gs : List Span) (ds : List Change) (n′ register′ after : ℕ) → after ≤ room
       → FragmentRead (2047 - i) b h fs field f room (w .to) len gs ds n′ register′ after (Ok (Some used))
       → LogRead b h room gs ds n′ (Ok used)
   walking-ends room used gs ds n′ register′ after r (ts, e, c, z, a) =
@@ -207,7 +207,7 @@ module _ (b : List ℕ) (h : Header) (i : ℕ) (fs : List Span) (field : ℕ) (f
       → Told (whole-log b h) (all-counts b h) room x
   wrong-told room r x (e, s) = (gives ∙ e, omega (arith, w .long, ap length counts, length-append (w .places) (counts-met (suc (2047 - i)) b h fs field f (w .to))))
 
-  pub walking-wrong : (room : ℕ) → len ≤ room → (x : LogFault)
+  walking-wrong : (room : ℕ) → len ≤ room → (x : LogFault)
       → Refuses (log-from (suc (2047 - i)) b h fs field f (w .to)) (counts-met (suc (2047 - i)) b h fs field f (w .to)) (room - len) x
       → Refuses (whole-log b h) (all-counts b h) room x
   walking-wrong room r (log.Outside p) t = wrong-told room r (log.Outside p) t
@@ -220,6 +220,23 @@ module _ (b : List ℕ) (h : Header) (i : ℕ) (fs : List Span) (field : ℕ) (f
         omega (arith, w .long, ap length counts, length-append (w .places) ps),
         q ∙ sym (ap (λ xs. getD xs room 0) counts ∙ getD-append-right (w .places) ps len room 0 (sym (w .long)) r),
       )
+
+  -- as the code comes to them
+  pub more-at : (room : ℕ) (gs : List Span) (ds : List Change) (n′ register′ after : ℕ) (o : Option ℕ) → o ≡ None
+      → FragmentRead (2047 - i) b h fs field f room (w .to) len gs ds n′ register′ after (Ok o)
+      → (p : ℕ) → p ≡ log-next f → (q : Span) → q ≡ span-at b p → Walking b h (i + 1) gs p q ds n′ register′ after
+  more-at room gs ds n′ register′ after o e t p a q d =
+      let P : Option ℕ → Type 0 = λ y. FragmentRead (2047 - i) b h fs field f room (w .to) len gs ds n′ register′ after (Ok y) in
+      let Q : ℕ → Type 0 = λ y. Walking b h (i + 1) gs y (span-at b y) ds n′ register′ after in
+      let R : Span → Type 0 = λ y. Walking b h (i + 1) gs p y ds n′ register′ after in
+      subst R (sym d) (subst Q (sym a) (walking-more room gs ds n′ register′ after (subst P e t)))
+
+  pub ends-at : (room room′ used : ℕ) (gs : List Span) (ds : List Change) (n′ register′ after : ℕ) (o : Option ℕ) → o ≡ Some used → after ≤ room′
+      → FragmentRead (2047 - i) b h fs field f room (w .to) len gs ds n′ register′ after (Ok o)
+      → LogRead b h room′ gs ds n′ (Ok used)
+  ends-at room room′ used gs ds n′ register′ after o e r t =
+      let P : Option ℕ → Type 0 = λ y. FragmentRead (2047 - i) b h fs field f room (w .to) len gs ds n′ register′ after (Ok y) in
+      walking-ends room′ used gs ds n′ register′ after r (subst P e t)
 
   pub wrong-at : (room room′ : ℕ) → room ≡ room′ → len ≤ room → (x : LogFault) (r : Result ℕ LogFault) → r ≡ Err x → (gs : List Span) (ds : List Change) (n′ : ℕ)
       → Refuses (log-from (suc (2047 - i)) b h fs field f (w .to)) (counts-met (suc (2047 - i)) b h fs field f (w .to)) (room - len) x
