@@ -19,42 +19,12 @@ use store::base::Store;
 
 // {7B5C52E4-D88C-4DA7-AEB1-5378D02996D3}
 const FILE_TYPE: [u8; 16] = [
-    0xE4,
-    0x52,
-    0x5C,
-    0x7B,
-    0x8C,
-    0xD8,
-    0xA7,
-    0x4D,
-    0xAE,
-    0xB1,
-    0x53,
-    0x78,
-    0xD0,
-    0x29,
-    0x96,
-    0xD3,
+    0xE4, 0x52, 0x5C, 0x7B, 0x8C, 0xD8, 0xA7, 0x4D, 0xAE, 0xB1, 0x53, 0x78, 0xD0, 0x29, 0x96, 0xD3,
 ];
 
 // {109ADD3F-911B-49F5-A5D0-1791EDC8AED8}
 const FILE_FORMAT: [u8; 16] = [
-    0x3F,
-    0xDD,
-    0x9A,
-    0x10,
-    0x1B,
-    0x91,
-    0xF5,
-    0x49,
-    0xA5,
-    0xD0,
-    0x17,
-    0x91,
-    0xED,
-    0xC8,
-    0xAE,
-    0xD8,
+    0x3F, 0xDD, 0x9A, 0x10, 0x1B, 0x91, 0xF5, 0x49, 0xA5, 0xD0, 0x17, 0x91, 0xED, 0xC8, 0xAE, 0xD8,
 ];
 
 // The newest code that a file may ask for.
@@ -85,11 +55,7 @@ pub struct File<S> {
 impl<S: Store> File<S> {
     /// A file that is not open, over a store and with room for its tables.
     pub fn new(store: S, room: Room) -> File<S> {
-        File {
-            store,
-            room,
-            mark: None,
-        }
+        File { store, room, mark: None }
     }
 
     /// Opens the file, and gives it a mark.
@@ -120,7 +86,7 @@ impl<S: Store> File<S> {
 
 // The header of a store whose first rules hold: long enough, of the type and the format, readable, and with a finished transaction.
 fn check_header<S: Store>(store: &S) -> Result<Header, HeaderFault>
-    ensures { λ r. ⌜ Cases r (λ h. h .end ≤ 2 ^ 40) (λ _. Unit {0}) ⌝ }
+    ensures { λ r. ⌜ Cases r (λ h. (h .end ≤ 2 ^ 40) × (1 ≤ h .count)) (λ _. Unit {0}) ⌝ }
 {
     let len = store.len();
     if len < 1024 {

@@ -5,4 +5,5 @@ pub mod files;
 mod lists_pass;
 mod log_pass;
 mod node_walk;
+mod places;
 pub mod room;

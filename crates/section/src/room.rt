@@ -1,14 +1,14 @@
 //! The room that opening works in: reserved at once, so that opening itself never wants memory.
 ghost use mathlib.Core.Path.{_≡_};
-ghost use Prim.Native.Nat.{_+_, _≤_, _<_};
-ghost use lib.Dec.{ltb};
-ghost use Rattle.model.specs.Headers.{header-span};
-ghost use Rattle.model.specs.References.{share};
-ghost use Rattle.model.specs.OpenedLog.{outside};
+ghost use mathlib.Core.List.{[]};
+ghost use Prim.Native.Nat.{_+_, _≤_};
 ghost use Rattle.std.specs.Of.Vec.{vec-items, vec-len, vec-cap};
-ghost use Rattle.std.specs.Results.{Cases};
+ghost use Rattle.std.specs.Vec.{made};
+ghost use Rattle.section.specs.Places.{Alike, Admits};
+use crate::places::Misplaced;
+use crate::places::is_in_header;
+use crate::places::is_outside;
 use counts::table::Counts;
-use format::references::is_absent;
 use model::types::Span;
 use ranges::Ranges;
 use std::alloc::AllocError;
@@ -40,14 +40,6 @@ pub(crate) struct Named {
     pub(crate) span: Span,
 }
 
-/// Why a fragment cannot stand where its reference says.
-#[derive(Clone, Copy)]
-pub(crate) enum Misplaced {
-    Outside,
-    Full,
-    Overlap,
-}
-
 /// The tables of an opened file.
 #[derive(Drop)]
 pub struct Room {
@@ -59,11 +51,22 @@ pub struct Room {
     ghost fragments_room: { 2048 ≤ vec-cap fragments },
     ghost lists_room: { 1024 ≤ vec-cap lists },
     ghost queue_room: { 1025 ≤ vec-cap queue },
+    // the ranges are the fragments, ordered by their starts
+    ghost tied: { Alike (vec-items (ranges .spans)) (vec-items fragments) },
+    ghost paired: { vec-len (ranges .spans) ≡ vec-len fragments },
 }
 
 impl Room {
     /// Room for a file whose finished log counts lists at most `changes` times.
-    pub fn new(heap: Global, changes: usize) -> Result<Room, AllocError> {
+    pub fn new(heap: Global, changes: usize) -> Result<Room, AllocError>
+        ensures changes { λ r. ⌜ made r (λ t. vec-items (t .counts .changes) ≡ []) ⌝ }
+        ensures noted { λ r. ⌜ made r (λ t. vec-len (t .counts .changes) ≡ 0) ⌝ }
+        ensures room { λ r. ⌜ made r (λ t. t .counts .room ≡ changes) ⌝ }
+        ensures finished { λ r. ⌜ made r (λ t. t .counts .finished ≡ 0) ⌝ }
+        ensures fragments { λ r. ⌜ made r (λ t. vec-items (t .fragments) ≡ []) ⌝ }
+        ensures lists { λ r. ⌜ made r (λ t. vec-items (t .lists) ≡ []) ⌝ }
+        ensures queue { λ r. ⌜ made r (λ t. vec-items (t .queue) ≡ []) ⌝ }
+    {
         Ok(Room {
             counts: Counts::new(heap, changes)?,
             ranges: Ranges::new(heap)?,
@@ -73,7 +76,16 @@ impl Room {
         })
     }
 
-    pub(crate) fn clear(&mut self) {
+    // Lets all go that was read; the room stays.
+    pub(crate) fn clear(&mut self)
+        ensures changes { λ _. ⌜ vec-items (now (self .exit) .counts .changes) ≡ [] ⌝ }
+        ensures noted { λ _. ⌜ vec-len (now (self .exit) .counts .changes) ≡ 0 ⌝ }
+        ensures room { λ _. ⌜ now (self .exit) .counts .room ≡ now (self .entry) .counts .room ⌝ }
+        ensures finished { λ _. ⌜ now (self .exit) .counts .finished ≡ 0 ⌝ }
+        ensures fragments { λ _. ⌜ vec-items (now (self .exit) .fragments) ≡ [] ⌝ }
+        ensures lists { λ _. ⌜ vec-items (now (self .exit) .lists) ≡ [] ⌝ }
+        ensures queue { λ _. ⌜ vec-items (now (self .exit) .queue) ≡ [] ⌝ }
+    {
         self.counts.clear();
         self.ranges.clear();
         self.fragments.clear();
@@ -83,7 +95,11 @@ impl Room {
 
     // Takes a fragment in, unless it is outside the file, one too many, or shares a byte with the header or another; in this order.
     pub(crate) fn admit(&mut self, least: u64, end: u64, fragment: Span) -> Result<(), Misplaced>
-        ensures { λ r. ⌜ Cases r (λ _. (least ≤ fragment .size) × (fragment .start + fragment .size ≤ end)) (λ _. Unit {0}) ⌝ }
+        requires { ⌜ 1 ≤ least ⌝ }
+        ensures answer { λ r. ⌜ Admits least end (vec-items (now (self .entry) .fragments)) fragment (vec-items (now (self .exit) .fragments)) r ⌝ }
+        ensures counts { λ _. ⌜ now (self .exit) .counts ≡ now (self .entry) .counts ⌝ }
+        ensures lists { λ _. ⌜ now (self .exit) .lists ≡ now (self .entry) .lists ⌝ }
+        ensures queue { λ _. ⌜ now (self .exit) .queue ≡ now (self .entry) .queue ⌝ }
     {
         if is_outside(least, end, fragment) {
             return Err(Misplaced::Outside);
@@ -121,25 +137,4 @@ impl Room {
             self.lists.push_reserved(row);
         }
     }
-}
-
-// Whether a fragment's reference is absent, its size under the least one, or its end past the file's.
-pub(crate) fn is_outside(least: u64, end: u64, fragment: Span) -> bool
-    ensures { λ r. ⌜ r ≡ outside least end fragment ⌝ }
-{
-    is_absent(fragment) || fragment.size < least || passes(end, fragment)
-}
-
-// Whether a range ends past `end`; no sum is made, since it may pass 2^64.
-pub(crate) fn passes(end: u64, span: Span) -> bool
-    ensures { λ r. ⌜ r ≡ ltb end (span .start + span .size) ⌝ }
-{
-    span.size > end || span.start > end - span.size
-}
-
-// Whether a range shares a byte with the header.
-pub(crate) fn is_in_header(span: Span) -> bool
-    ensures { λ r. ⌜ r ≡ share span header-span ⌝ }
-{
-    span.size > 0 && span.start < 1024
 }
