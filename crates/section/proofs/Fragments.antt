@@ -124,7 +124,7 @@ module _ (m : ℕ) (b : List ℕ) (h : Header) (fs : List Span) (field : ℕ) (f
       counts-in (entries-in (f .size)) b (h .count) f 0 k,
       at-log (done (unfinished to)) e ∙ ap (λ xs. log-from m b h xs (log-next f) (span-at b (log-next f)) to) (sym s),
       at-counts (done (unfinished to)) e
-      ∙ ap (λ xs. counts-in (entries-in (f .size)) b (h .count) f 0 k ++ counts-met m b h xs (log-next f) (span-at b (log-next f)) to) (sym s),
+          ∙ ap (λ xs. counts-in (entries-in (f .size)) b (h .count) f 0 k ++ counts-met m b h xs (log-next f) (span-at b (log-next f)) to) (sym s),
       c,
       a,
       ap length s ∙ length-push fs f,

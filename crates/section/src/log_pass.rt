@@ -10,10 +10,10 @@ ghost use Rattle.model.specs.OpenedLog.{outside, Reading};
 ghost use Rattle.section.specs.declared.faults.LogFault.the-variants as faults;
 ghost use Rattle.section.specs.Logs.{Holds, met, Takes, EntriesRead, FragmentRead, LogRead, log-misplaced};
 use crate::faults::LogFault;
-use crate::room::MOST_FRAGMENTS;
 use crate::places::Misplaced;
-use crate::room::Room;
 use crate::places::is_outside;
+use crate::room::MOST_FRAGMENTS;
+use crate::room::Room;
 use counts::table::Counts;
 use crc::Crc;
 use format::fetching::fetch;
@@ -30,7 +30,11 @@ const LEAST: u64 = 12;
 const FIELD: u64 = 0xA0;
 
 // Reads the finished log into a room that holds nothing, and answers how many entries of its last fragment are used.
-pub(crate) fn read_log<S: Store>(store: &S, header: &Header, room: &mut Room) -> Result<u64, LogFault>
+pub(crate) fn read_log<S: Store>(
+    store: &S,
+    header: &Header,
+    room: &mut Room,
+) -> Result<u64, LogFault>
     requires end { ⌜ now header .end ≤ 2 ^ 40 ⌝ }
     requires some { ⌜ 1 ≤ now header .count ⌝ }
     requires fragments { ⌜ vec-items (now room .fragments) ≡ [] ⌝ }
@@ -197,7 +201,13 @@ fn note_count(
 }
 
 // A sentinel with the sum of its transaction's entries.
-fn end_transaction(sum: u32, place: u64, count: u32, counts: &mut Counts, crc: &mut Crc) -> Result<bool, LogFault>
+fn end_transaction(
+    sum: u32,
+    place: u64,
+    count: u32,
+    counts: &mut Counts,
+    crc: &mut Crc,
+) -> Result<bool, LogFault>
     ensures takes { λ r. ⌜ ((k : Reading) → Holds count (vec-items (now (counts .entry) .changes)) (now (counts .entry) .finished) (now (crc .entry) .register) k → Takes (met count place (entry 1 sum) k) count place (now (counts .entry) .room) (vec-len (now (counts .entry) .changes)) (vec-items (now (counts .exit) .changes)) (now (counts .exit) .finished) (now (crc .exit) .register) (vec-len (now (counts .exit) .changes)) r) ⌝ }
     ensures room { λ _. ⌜ now (counts .exit) .room ≡ now (counts .entry) .room ⌝ }
 {

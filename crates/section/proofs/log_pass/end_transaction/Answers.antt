@@ -19,9 +19,9 @@ returns c =
     let s = c .finish-2 .ensures in
     record {
       takes = λ k h.
-        takes-sentinel (c .args .count) (c .args .place) (vec-items (old .changes)) (old .finished) (c .args .crc .now .register) k h
-            (c .args .sum) (c .finish .result) (c .finish .ensures) (c .if-finish-sum .left)
-            (eqb (c .finished .result) (c .args .count)) (old .room) (vec-len (old .changes)) (vec-items (new .changes)) (new .finished) (c .new .result .register) (vec-len (new .changes))
-            (omega arith) (ap vec-items (s .changes)) (s .finished) (c .new .ensures) (ap vec-len (s .changes)) (ap (λ x. eqb x (c .args .count)) (c .finished .ensures));
+          takes-sentinel (c .args .count) (c .args .place) (vec-items (old .changes)) (old .finished) (c .args .crc .now .register) k h
+          (c .args .sum) (c .finish .result) (c .finish .ensures) (c .if-finish-sum .left)
+          (eqb (c .finished .result) (c .args .count)) (old .room) (vec-len (old .changes)) (vec-items (new .changes)) (new .finished) (c .new .result .register) (vec-len (new .changes))
+          (omega arith) (ap vec-items (s .changes)) (s .finished) (c .new .ensures) (ap vec-len (s .changes)) (ap (λ x. eqb x (c .args .count)) (c .finished .ensures));
       room = s .room;
     }

@@ -9,4 +9,4 @@ abbrev pub Inv-loop-i : given.InvT-loop-i
 Inv-loop-i g l =
     (l .counts .room ≡ l .entry .counts .room)
     × ((k : Reading) → Holds (l .count) (vec-items (l .entry .counts .changes)) (l .entry .counts .finished) (l .entry .crc .register) k
-        → Going (g .S·Store .bytes (l .store)) (l .count) (l .fragment) (l .i) k (vec-len (l .entry .counts .changes)) (vec-items (l .counts .changes)) (l .counts .finished) (l .crc .register) (vec-len (l .counts .changes)))
+    → Going (g .S·Store .bytes (l .store)) (l .count) (l .fragment) (l .i) k (vec-len (l .entry .counts .changes)) (vec-items (l .counts .changes)) (l .counts .finished) (l .crc .register) (vec-len (l .counts .changes)))

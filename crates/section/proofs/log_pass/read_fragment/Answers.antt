@@ -15,8 +15,8 @@ returns-in-Err g c =
     record {
       place = tt;
       read = λ m k h.
-        misplaced-at m (g .S·Store .bytes (c .args .store .now)) (c .args .header .now) (vec-items (d .fragments)) (c .args .field) (c .args .fragment) k
-            (vec-items (c .admit .last .self .fragments)) (c .in-Err .misplaced) (d .counts .room - vec-len (d .counts .changes)) l (s .answer) (c .log-fault .result) (c .log-fault .ensures);
+          misplaced-at m (g .S·Store .bytes (c .args .store .now)) (c .args .header .now) (vec-items (d .fragments)) (c .args .field) (c .args .fragment) k
+          (vec-items (c .admit .last .self .fragments)) (c .in-Err .misplaced) (d .counts .room - vec-len (d .counts .changes)) l (s .answer) (c .log-fault .result) (c .log-fault .ensures);
       room = ap (λ x. x .room) (s .counts);
       lists = s .lists;
       queue = s .queue;
@@ -31,9 +31,9 @@ returns g c =
     record {
       place = cases-done (c .read-entries .result) _ (inside-of (c .args .header .now .end) (c .args .fragment) (a .0));
       read = λ m k h.
-        read-at m (g .S·Store .bytes (c .args .store .now)) (c .args .header .now) (vec-items (d .fragments)) (c .args .field) (c .args .fragment) k (a .0) (a .2)
-            (vec-items (c .admit .last .self .fragments)) (d .counts) (c .admit .last .self .counts) (vec-items (new .changes)) (new .finished) (c .read-entries .last .crc .register)
-            (c .args .crc .now .register) (vec-len (new .changes)) (a .3) (s .counts) (c .read-entries .result) (c .read-entries .ensures .read k) h;
+          read-at m (g .S·Store .bytes (c .args .store .now)) (c .args .header .now) (vec-items (d .fragments)) (c .args .field) (c .args .fragment) k (a .0) (a .2)
+          (vec-items (c .admit .last .self .fragments)) (d .counts) (c .admit .last .self .counts) (vec-items (new .changes)) (new .finished) (c .read-entries .last .crc .register)
+          (c .args .crc .now .register) (vec-len (new .changes)) (a .3) (s .counts) (c .read-entries .result) (c .read-entries .ensures .read k) h;
       room = c .read-entries .ensures .room ∙ ap (λ x. x .room) (s .counts);
       lists = s .lists;
       queue = s .queue;

@@ -29,10 +29,10 @@ returns-in-Break-used g c =
     let e = err-from-errBy (c .from-residual .result) (c .from-residual .ensures .1) in
     record {
       log =
-        wrong-at b (c .args .header .now) (c .loop-read .-read) (vec-items (d .fragments)) (c .loop-read .field) (c .loop-read .fragment) (vec-items (d .counts .changes)) (d .counts .finished)
-            (c .loop-read .crc .register) (vec-len (d .counts .changes)) w l (d .counts .room) (c .args .room .now .counts .room) (c .loop-read .inv .1) (d .counts .held .0)
-            (c .in-Break-used .field-0 .0) (c .from-residual .result) (e .1 ∙ ap Err (e .2)) (vec-items (new .fragments)) (vec-items (new .counts .changes)) (new .counts .finished)
-            (c .in-Break-used .ensures tt .read (2047 - c .loop-read .-read) (w .to) (w .holds));
+          wrong-at b (c .args .header .now) (c .loop-read .-read) (vec-items (d .fragments)) (c .loop-read .field) (c .loop-read .fragment) (vec-items (d .counts .changes)) (d .counts .finished)
+          (c .loop-read .crc .register) (vec-len (d .counts .changes)) w l (d .counts .room) (c .args .room .now .counts .room) (c .loop-read .inv .1) (d .counts .held .0)
+          (c .in-Break-used .field-0 .0) (c .from-residual .result) (e .1 ∙ ap Err (e .2)) (vec-items (new .fragments)) (vec-items (new .counts .changes)) (new .counts .finished)
+          (c .in-Break-used .ensures tt .read (2047 - c .loop-read .-read) (w .to) (w .holds));
       room = s .room ∙ c .loop-read .inv .1;
       lists = s .lists ∙ c .loop-read .inv .2;
       queue = s .queue ∙ c .loop-read .inv .3;
@@ -50,10 +50,10 @@ returns-in-Some g c =
     = omega (arith, c .read-fragment .last .room .counts .held .0, c .read-fragment .ensures .room, c .loop-read .inv .1) in
     record {
       log =
-        ends-at b (c .args .header .now) (c .loop-read .-read) (vec-items (d .fragments)) (c .loop-read .field) (c .loop-read .fragment) (vec-items (d .counts .changes)) (d .counts .finished)
-            (c .loop-read .crc .register) (vec-len (d .counts .changes)) w l (d .counts .room) (c .args .room .now .counts .room) (c .in-Some .used)
-            (vec-items (new .fragments)) (vec-items (new .counts .changes)) (new .counts .finished) (c .read-fragment .last .crc .register) (vec-len (new .counts .changes))
-            (c .in-Continue-used .field-0) (c .in-Some .is) r (c .in-Continue-used .ensures tt .read (2047 - c .loop-read .-read) (w .to) (w .holds));
+          ends-at b (c .args .header .now) (c .loop-read .-read) (vec-items (d .fragments)) (c .loop-read .field) (c .loop-read .fragment) (vec-items (d .counts .changes)) (d .counts .finished)
+          (c .loop-read .crc .register) (vec-len (d .counts .changes)) w l (d .counts .room) (c .args .room .now .counts .room) (c .in-Some .used)
+          (vec-items (new .fragments)) (vec-items (new .counts .changes)) (new .counts .finished) (c .read-fragment .last .crc .register) (vec-len (new .counts .changes))
+          (c .in-Continue-used .field-0) (c .in-Some .is) r (c .in-Continue-used .ensures tt .read (2047 - c .loop-read .-read) (w .to) (w .holds));
       room = s .room ∙ c .loop-read .inv .1;
       lists = s .lists ∙ c .loop-read .inv .2;
       queue = s .queue ∙ c .loop-read .inv .3;
@@ -85,8 +85,8 @@ returns g c =
     let r : vec-len (c .loop-read .room .counts .changes) ≤ c .args .room .now .counts .room = omega (arith, c .loop-read .room .counts .held .0, c .loop-read .inv .1) in
     record {
       log =
-        walking-all b (c .args .header .now) (c .loop-read .-read) (vec-items (d .fragments)) (c .loop-read .field) (c .loop-read .fragment) (vec-items (d .counts .changes)) (d .counts .finished)
-            (c .loop-read .crc .register) (vec-len (d .counts .changes)) (c .loop-read .inv .0) l (c .args .room .now .counts .room) r (c .past-last .result) (c .past-last .ensures);
+          walking-all b (c .args .header .now) (c .loop-read .-read) (vec-items (d .fragments)) (c .loop-read .field) (c .loop-read .fragment) (vec-items (d .counts .changes)) (d .counts .finished)
+          (c .loop-read .crc .register) (vec-len (d .counts .changes)) (c .loop-read .inv .0) l (c .args .room .now .counts .room) r (c .past-last .result) (c .past-last .ensures);
       room = c .loop-read .inv .1;
       lists = c .loop-read .inv .2;
       queue = c .loop-read .inv .3;

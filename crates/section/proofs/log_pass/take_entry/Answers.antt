@@ -9,7 +9,7 @@ returns-then-entry-eq1 c =
     let new = c .end-transaction .last .counts in
     record {
       takes = λ k h.
-        takes-as (c .args .count) (c .args .place) (old .room) (vec-len (old .changes)) (c .args .entry) k (vec-items (new .changes)) (new .finished)
-            (c .end-transaction .last .crc .register) (vec-len (new .changes)) (c .end-transaction .result) (c .if-entry-eq1 .taken) (c .end-transaction .ensures .takes k h);
+          takes-as (c .args .count) (c .args .place) (old .room) (vec-len (old .changes)) (c .args .entry) k (vec-items (new .changes)) (new .finished)
+          (c .end-transaction .last .crc .register) (vec-len (new .changes)) (c .end-transaction .result) (c .if-entry-eq1 .taken) (c .end-transaction .ensures .takes k h);
       room = c .end-transaction .ensures .room;
     }
