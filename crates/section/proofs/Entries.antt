@@ -18,12 +18,13 @@ use Rattle.model.specs.declared.types.Fault.{Fault}
 use Rattle.model.specs.Faults.{fault, Outcome, done, refused}
 use Rattle.model.specs.LogFragments.{entry-at, sentinel, entries-in, entry-place}
 use Rattle.model.specs.Section.{flat, latest}
-use Rattle.model.specs.OpenedLog.{Reading, reading, LogPart, finished, unfinished, log-entries}
+use Rattle.model.specs.OpenedLog.{Reading, reading, LogPart, finished, log-entries}
 use Rattle.counts.specs.declared.changes.Change.{Change}
 use Rattle.section.specs.declared.faults.LogFault.{LogFault}
 use Rattle.section.specs.declared.faults.LogFault.the-variants as log
 use Rattle.section.specs.Refusals.{log-told}
-use Rattle.section.specs.Logs.{Met, wrong, ends, goes, met, counts-past, counts-in, Holds, Told, Refuses, TakesWrong, Takes, EntriesRead}
+use Rattle.section.specs.Logs.{Met, wrong, ends, goes, met, counts-past, counts-in, Told, Refuses}
+use Rattle.section.specs.LogSteps.{Holds, TakesWrong, Takes, EntriesRead}
 
 -- what an entry leaves to be read
 abbrev pub log-past : (Reading → Outcome LogPart) → ℕ → Met → Outcome LogPart
@@ -66,18 +67,6 @@ pub record Going (b : List ℕ) (count : ℕ) (f : Span) (i : ℕ) (k : Reading)
   pub long : after ≡ len + length places
 
 module _ (b : List ℕ) (count : ℕ) (f : Span) (k : Reading) (len : ℕ) where
-  pub going-none : (cs : List Change) (n register : ℕ) → Holds count cs n register k → Going b count f 0 k len cs n register len
-  going-none cs n register h =
-      let e : entries-in (f .size) - 0 ≡ entries-in (f .size) = omega arith in
-      record {
-        to = k;
-        places = [];
-        holds = h;
-        rest = ap (λ m. log-entries m b count f 0 k) e;
-        counted = ap (λ m. counts-in m b count f 0 k) e;
-        long = omega arith;
-      }
-
   module _ (i : ℕ) (cs : List Change) (n register after : ℕ) (g : Going b count f i k len cs n register after) where
     gives : i < entries-in (f .size) → log-entries (entries-in (f .size)) b count f 0 k ≡ log-past (log-entries (entries-in (f .size) - (i + 1)) b count f (i + 1)) (i + 1) (met count (entry-place f i) (entry-at b (entry-place f i)) (g .to))
     gives l =

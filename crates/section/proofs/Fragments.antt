@@ -1,6 +1,6 @@
 -- The fragments of the log, one after the other: what is left gives what the whole gives.
-use mathlib.Core.Path.{_≡_, refl, sym, ap, subst, _∙_}
-use mathlib.Core.Bool.{Bool, true, false, cond, _||_}
+use mathlib.Core.Path.{_≡_, sym, ap, subst, _∙_}
+use mathlib.Core.Bool.{true, false, cond, _||_}
 use mathlib.Core.List.{List, [], _∷_, _++_, append-assoc, append-nil}
 use mathlib.Core.Logic.{inl, inr}
 use Prim.Native.Nat.{ℕ, suc, _+_, _-_, _≤_, _<_}
@@ -16,14 +16,11 @@ use Rattle.std.specs.Results.{Cases}
 use Rattle.std.proofs.shelf.Tests.{or-from, or-left, or-right, cases-bool}
 use Rattle.std.proofs.shelf.Ways.{tells}
 use Rattle.model.specs.declared.types.Span.{Span}
-use Rattle.model.specs.declared.types.Entry.{Entry}
 use Rattle.model.specs.declared.types.Header.{Header}
-use Rattle.model.specs.declared.types.Fault.{Fault}
-use Rattle.model.specs.Crc.{run, crc-32}
+use Rattle.model.specs.Crc.{crc-32}
 use Rattle.model.specs.Faults.{fault, Outcome, done, refused, then}
 use Rattle.model.specs.References.{span-at}
 use Rattle.model.specs.LogFragments.{entry-bytes, entries-in, log-next}
-use Rattle.model.specs.Section.{Log}
 use Rattle.model.specs.OpenedLog.{outside, overlaps, Reading, reading, LogPart, finished, unfinished, log-entries, log-goes, log-from}
 use Rattle.counts.specs.declared.changes.Change.{Change}
 use Rattle.counts.specs.declared.table.Counts.{Counts}
@@ -35,7 +32,8 @@ use Rattle.section.specs.declared.faults.LogFault.{LogFault}
 use Rattle.section.specs.declared.faults.LogFault.the-variants as log
 use Rattle.section.specs.Places.{Admits}
 use Rattle.section.specs.Refusals.{log-told}
-use Rattle.section.specs.Logs.{counts-in, counts-after, counts-met, whole-log, all-counts, Holds, Told, Refuses, EntriesRead, FragmentRead, LogRead, log-misplaced}
+use Rattle.section.specs.Logs.{counts-in, counts-after, counts-met, whole-log, all-counts, Told, Refuses, LogRead}
+use Rattle.section.specs.LogSteps.{Holds, EntriesRead, FragmentRead, log-misplaced}
 
 module _ (m : ℕ) (b : List ℕ) (h : Header) (fs : List Span) (field : ℕ) (f : Span) (k : Reading) where
   -- a fragment whose place is wrong
@@ -80,11 +78,11 @@ module _ (m : ℕ) (b : List ℕ) (h : Header) (fs : List Span) (field : ℕ) (f
     unfolding counts-met
     met-entries = let e : (outside 12 (h .end) f || overlaps f fs) ≡ false = or-from _ _ o v in rw e
 
-    at-log : (x : Outcome LogPart) → log-entries (entries-in (f .size)) b (h .count) f 0 k ≡ x
+    pub at-log : (x : Outcome LogPart) → log-entries (entries-in (f .size)) b (h .count) f 0 k ≡ x
         → log-from (suc m) b h fs field f k ≡ then x (log-goes (log-from m b h) b fs f)
     at-log x e = from-entries ∙ ap (λ y. then y (log-goes (log-from m b h) b fs f)) e
 
-    at-counts : (x : Outcome LogPart) → log-entries (entries-in (f .size)) b (h .count) f 0 k ≡ x
+    pub at-counts : (x : Outcome LogPart) → log-entries (entries-in (f .size)) b (h .count) f 0 k ≡ x
         → counts-met (suc m) b h fs field f k ≡ counts-in (entries-in (f .size)) b (h .count) f 0 k ++ counts-after (counts-met m b h) b fs f x
     at-counts x e = met-entries ∙ ap (λ y. counts-in (entries-in (f .size)) b (h .count) f 0 k ++ counts-after (counts-met m b h) b fs f y) e
 

@@ -1,34 +1,35 @@
 -- One entry of the log: what it does to a log as far as it was read, and how that is then held.
 use mathlib.Core.Path.{_≡_, refl, sym, ap, ap₂, subst, _∙_}
-use mathlib.Core.Bool.{Bool, true, false, cond, not}
+use mathlib.Core.Bool.{Bool, true, false, cond}
 use mathlib.Core.List.{List, [], _∷_, _++_, append-assoc, append-nil}
-use Prim.Native.Nat.{ℕ, suc, _+_, _-_, _*_, _/_, _%_, _^_, _≤_, _<_, min}
+use Prim.Native.Nat.{ℕ, suc, _+_, _*_, _/_, _%_, _^_, _≤_, _<_, min}
 use native.Mathlib.Nat.{add-zero}
 use native.Mathlib.Omega.{arith}
 use lib.Bits.{bitXor}
 use lib.Dec.{eqb, leb}
 use lib.ListN.{length, getD}
 use Rattle.std.specs.declared.result.Result.{Result}
-use Rattle.std.specs.declared.result.Result.the-variants.{Ok, Err}
+use Rattle.std.specs.declared.result.Result.the-variants.{Ok}
 use Rattle.std.proofs.shelf.Lists.{length-push}
-use Rattle.std.proofs.shelf.Tests.{le-leb, lt-leb, eq-eqb, ne-eqb, eqb-true, eqb-false}
+use Rattle.std.proofs.shelf.Tests.{le-leb, lt-leb, eq-eqb, ne-eqb, eqb-false}
 use Rattle.model.specs.declared.types.Entry.{Entry}
 use Rattle.model.specs.Bytes.{le, digits}
 use Rattle.model.specs.Crc.{run, crcOf, crc-32}
 use Rattle.model.specs.Faults.{fault}
-use Rattle.model.specs.LogFragments.{entry, entry-at, entry-bytes, sentinel}
+use Rattle.model.specs.LogFragments.{entry, entry-at, entry-bytes}
 use Rattle.model.specs.Section.{flat, latest}
 use Rattle.model.specs.OpenedLog.{Reading, reading}
 use Rattle.counts.specs.declared.changes.Change.{Change}
-use Rattle.counts.specs.Noted.{change, entries, noted, numbered}
+use Rattle.counts.specs.Noted.{change, entries, noted}
 use Rattle.counts.proofs.Numbered.{entries-numbered, numbered-note, numbered-finish}
 use Rattle.crc.proofs.Rows.{run-end, run-append}
 use Rattle.format.specs.Windows.{Window}
 use Rattle.format.proofs.Fetched.{le-window}
 use Rattle.section.specs.declared.faults.LogFault.{LogFault}
-use Rattle.section.specs.Logs.{Met, wrong, ends, goes, met, Holds, Takes}
+use Rattle.section.specs.Logs.{wrong, ends, goes, met}
+use Rattle.section.specs.LogSteps.{Holds, Takes}
 
-flat-push : (ts : List (List Entry)) (es : List Entry) → flat (ts ++ (es ∷ [])) ≡ flat ts ++ es
+pub flat-push : (ts : List (List Entry)) (es : List Entry) → flat (ts ++ (es ∷ [])) ≡ flat ts ++ es
 flat-push [] es = append-nil es
 flat-push (t ∷ ts) es = ap (λ xs. t ++ xs) (flat-push ts es) ∙ sym (append-assoc t (flat ts) es)
 

@@ -5,7 +5,7 @@ use mathlib.Core.List.{List, [], _∷_, _++_}
 use native.Mathlib.Omega.{arith}
 use Rattle.std.proofs.shelf.Ways.{tells}
 use Rattle.model.specs.declared.types.Span.{Span}
-use Rattle.model.specs.References.{share, meets}
+use Rattle.model.specs.References.{meets}
 use Rattle.ranges.specs.Ordered.{Adds}
 use Rattle.ranges.proofs.Order.{meets-append}
 use Rattle.section.specs.Places.{Alike}

@@ -1,3 +1,4 @@
 pub mod Refusals
 pub mod Places
 pub mod Logs
+pub mod LogSteps

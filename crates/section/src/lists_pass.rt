@@ -8,13 +8,13 @@ use crate::node_walk::is_bad;
 use crate::node_walk::node_before;
 use crate::node_walk::nodes_from;
 use crate::node_walk::nodes_to;
-use crate::places::Misplaced;
-use crate::places::is_outside;
 use crate::room::MOST_FRAGMENTS;
 use crate::room::MOST_LISTS;
+use crate::places::Misplaced;
 use crate::room::Named;
 use crate::room::Room;
 use crate::room::Row;
+use crate::places::is_outside;
 use format::fetching::u32_at;
 use format::fetching::u64_at;
 use format::references::is_absent;
@@ -28,12 +28,10 @@ const LEAST: u64 = 36;
 
 // Where the header refers to the root list and to the hashed chunk list.
 const ROOT_FIELD: u64 = 0xAC;
-
 const HASHED_FIELD: u64 = 0x94;
 
 // The marks before and behind a fragment.
 const FIRST_MARK: u64 = 0xA456_7AB1_F5F7_F4C4;
-
 const LAST_MARK: u64 = 0x8BC2_15C3_8233_BA4B;
 
 // List IDs begin here.
@@ -47,11 +45,7 @@ struct Part {
 }
 
 // Reads all lists: the root, the hashed chunk list unless it is absent, and then those that are met.
-pub(crate) fn read_lists<S: Store>(
-    store: &S,
-    header: &Header,
-    room: &mut Room,
-) -> Result<(), InList>
+pub(crate) fn read_lists<S: Store>(store: &S, header: &Header, room: &mut Room) -> Result<(), InList>
     requires { ⌜ now header .end ≤ 2 ^ 40 ⌝ }
 {
     room.name(ROOT_FIELD, header.root);
@@ -73,10 +67,7 @@ fn read_list<S: Store>(store: &S, end: u64, room: &mut Room, named: Named) -> Re
     requires { ⌜ end ≤ 2 ^ 40 ⌝ }
 {
     if room.lists.len() >= MOST_LISTS {
-        return Err(InList {
-            fault: too_many(end, named),
-            list: 0,
-        });
+        return Err(InList { fault: too_many(end, named), list: 0 });
     }
     let first = room.fragments.len();
     take_in(room, end, named.span, named.field, 0)?;
@@ -89,13 +80,7 @@ fn read_list<S: Store>(store: &S, end: u64, room: &mut Room, named: Named) -> Re
         let part = read_nodes(store, list, fragment, count - nodes, room)?;
         nodes += part.nodes;
         if nodes == count {
-            room.add_list(Row {
-                id: list,
-                first,
-                fragments: sequence as usize,
-                nodes,
-                free: part.free,
-            });
+            room.add_list(Row { id: list, first, fragments: sequence as usize, nodes, free: part.free });
             return Ok(());
         }
         let field = nodes_to(fragment);
@@ -136,13 +121,7 @@ fn owner<S: Store>(store: &S, fragment: Span) -> u32
 }
 
 // Checks a fragment's marks, its list's ID and its number in the list; the list is told once the first fragment has passed.
-fn check_fragment<S: Store>(
-    store: &S,
-    fragment: Span,
-    list: u32,
-    sequence: u32,
-    told: u32,
-) -> Result<(), InList>
+fn check_fragment<S: Store>(store: &S, fragment: Span, list: u32, sequence: u32, told: u32) -> Result<(), InList>
     requires inside { ⌜ fragment .start + fragment .size ≤ 2 ^ 40 ⌝ }
     requires least { ⌜ 36 ≤ fragment .size ⌝ }
 {
@@ -153,10 +132,7 @@ fn check_fragment<S: Store>(
         || owner(store, fragment) != list
         || list < LEAST_ID
     {
-        return Err(InList {
-            fault: ListFault::Fragment { place: start },
-            list: told,
-        });
+        return Err(InList { fault: ListFault::Fragment { place: start }, list: told });
     }
     Ok(())
 }
@@ -167,29 +143,17 @@ fn check_first(room: &Room, list: u32, fragment: Span) -> Result<u32, InList>
 {
     let place = fragment.start;
     if room.has_list(list) {
-        return Err(InList {
-            fault: ListFault::Twice { place },
-            list,
-        });
+        return Err(InList { fault: ListFault::Twice { place }, list });
     }
     let count = room.counts.latest(list);
     if count == 0 {
-        return Err(InList {
-            fault: ListFault::Unlisted { place },
-            list,
-        });
+        return Err(InList { fault: ListFault::Unlisted { place }, list });
     }
     Ok(count)
 }
 
 // Reads a fragment's nodes, at most `left`, and names the lists that they refer to.
-fn read_nodes<S: Store>(
-    store: &S,
-    list: u32,
-    fragment: Span,
-    left: u32,
-    room: &mut Room,
-) -> Result<Part, InList>
+fn read_nodes<S: Store>(store: &S, list: u32, fragment: Span, left: u32, room: &mut Room) -> Result<Part, InList>
     requires inside { ⌜ fragment .start + fragment .size ≤ 2 ^ 40 ⌝ }
     requires least { ⌜ 36 ≤ fragment .size ⌝ }
     ensures { λ r. ⌜ Cases r (λ p. p .nodes ≤ left) (λ _. Unit {0}) ⌝ }
@@ -201,18 +165,12 @@ fn read_nodes<S: Store>(
             return Ok(Part { nodes, free: place });
         };
         if is_bad(&node.head, place, stop) {
-            return Err(InList {
-                fault: ListFault::Node { place },
-                list,
-            });
+            return Err(InList { fault: ListFault::Node { place }, list });
         }
         if node.head.base == 2 && !is_absent(node.reference) {
             room.name(place + 4, node.reference);
         }
         place += node.head.size as u64;
     }
-    Ok(Part {
-        nodes: left,
-        free: place,
-    })
+    Ok(Part { nodes: left, free: place })
 }

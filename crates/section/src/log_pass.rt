@@ -2,13 +2,14 @@
 ghost use mathlib.Core.Path.{_≡_};
 ghost use mathlib.Core.Bool.{cond};
 ghost use mathlib.Core.List.{[], _∷_};
-ghost use Prim.Native.Nat.{ℕ, _+_, _^_, _≤_, _<_};
+ghost use Prim.Native.Nat.{_+_, _^_, _≤_, _<_};
 ghost use Rattle.std.specs.Of.Vec.{vec-items, vec-len};
 ghost use Rattle.std.specs.Results.{Cases};
 ghost use Rattle.model.specs.LogFragments.{entry-at, entry-bytes, entry, entries-in, log-next};
-ghost use Rattle.model.specs.OpenedLog.{outside, Reading};
+ghost use Rattle.model.specs.OpenedLog.{outside};
 ghost use Rattle.section.specs.declared.faults.LogFault.the-variants as faults;
-ghost use Rattle.section.specs.Logs.{Holds, met, Takes, EntriesRead, FragmentRead, LogRead, log-misplaced};
+ghost use Rattle.section.specs.Logs.{LogRead};
+ghost use Rattle.section.specs.LogSteps.{TakesEntry, ReadsEntries, ReadsFragment, log-misplaced};
 use crate::faults::LogFault;
 use crate::places::Misplaced;
 use crate::places::is_outside;
@@ -108,7 +109,7 @@ fn read_fragment<S: Store>(
     requires end { ⌜ now header .end ≤ 2 ^ 40 ⌝ }
     requires few { ⌜ vec-len (now room .fragments) < 2048 ⌝ }
     ensures place { λ r. ⌜ Cases r (λ _. (12 ≤ fragment .size) × (fragment .start + fragment .size ≤ now (header .entry) .end)) (λ _. Unit {0}) ⌝ }
-    ensures read { λ r. ⌜ ((m : ℕ) (k : Reading) → Holds (now (header .entry) .count) (vec-items (now (room .entry) .counts .changes)) (now (room .entry) .counts .finished) (now (crc .entry) .register) k → FragmentRead m (S·Store .bytes (now (store .entry))) (now (header .entry)) (vec-items (now (room .entry) .fragments)) field fragment (now (room .entry) .counts .room) k (vec-len (now (room .entry) .counts .changes)) (vec-items (now (room .exit) .fragments)) (vec-items (now (room .exit) .counts .changes)) (now (room .exit) .counts .finished) (now (crc .exit) .register) (vec-len (now (room .exit) .counts .changes)) r) ⌝ }
+    ensures read { λ r. ⌜ ReadsFragment (S·Store .bytes (now (store .entry))) (now (header .entry)) (vec-items (now (room .entry) .fragments)) field fragment (vec-items (now (room .exit) .fragments)) (now (room .entry) .counts) (now (crc .entry)) (now (room .exit) .counts) (now (crc .exit)) r ⌝ }
     ensures room { λ _. ⌜ now (room .exit) .counts .room ≡ now (room .entry) .counts .room ⌝ }
     ensures lists { λ _. ⌜ now (room .exit) .lists ≡ now (room .entry) .lists ⌝ }
     ensures queue { λ _. ⌜ now (room .exit) .queue ≡ now (room .entry) .queue ⌝ }
@@ -129,7 +130,7 @@ fn read_entries<S: Store>(
 ) -> Result<Option<u64>, LogFault>
     requires least { ⌜ 12 ≤ fragment .size ⌝ }
     requires inside { ⌜ fragment .start + fragment .size ≤ 2 ^ 40 ⌝ }
-    ensures read { λ r. ⌜ ((k : Reading) → Holds count (vec-items (now (counts .entry) .changes)) (now (counts .entry) .finished) (now (crc .entry) .register) k → EntriesRead (S·Store .bytes (now (store .entry))) count fragment (now (counts .entry) .room) k (vec-len (now (counts .entry) .changes)) (vec-items (now (counts .exit) .changes)) (now (counts .exit) .finished) (now (crc .exit) .register) (vec-len (now (counts .exit) .changes)) r) ⌝ }
+    ensures read { λ r. ⌜ ReadsEntries (S·Store .bytes (now (store .entry))) count fragment (now (counts .entry)) (now (crc .entry)) (now (counts .exit)) (now (crc .exit)) r ⌝ }
     ensures room { λ _. ⌜ now (counts .exit) .room ≡ now (counts .entry) .room ⌝ }
 {
     let n = entries_in(fragment.size);
@@ -166,7 +167,7 @@ fn take_entry(
     crc: &mut Crc,
 ) -> Result<bool, LogFault>
     requires { ⌜ now bytes ≡ entry-bytes (entry ∷ []) ⌝ }
-    ensures takes { λ r. ⌜ ((k : Reading) → Holds count (vec-items (now (counts .entry) .changes)) (now (counts .entry) .finished) (now (crc .entry) .register) k → Takes (met count place entry k) count place (now (counts .entry) .room) (vec-len (now (counts .entry) .changes)) (vec-items (now (counts .exit) .changes)) (now (counts .exit) .finished) (now (crc .exit) .register) (vec-len (now (counts .exit) .changes)) r) ⌝ }
+    ensures takes { λ r. ⌜ TakesEntry count place entry (now (counts .entry)) (now (crc .entry)) (now (counts .exit)) (now (crc .exit)) r ⌝ }
     ensures room { λ _. ⌜ now (counts .exit) .room ≡ now (counts .entry) .room ⌝ }
 {
     if entry.source == 1 {
@@ -187,7 +188,7 @@ fn note_count(
 ) -> Result<bool, LogFault>
     requires source { ⌜ (entry .source ≡ 1 → ⊥) ⌝ }
     requires bytes { ⌜ now bytes ≡ entry-bytes (entry ∷ []) ⌝ }
-    ensures takes { λ r. ⌜ ((k : Reading) → Holds count (vec-items (now (counts .entry) .changes)) (now (counts .entry) .finished) (now (crc .entry) .register) k → Takes (met count place entry k) count place (now (counts .entry) .room) (vec-len (now (counts .entry) .changes)) (vec-items (now (counts .exit) .changes)) (now (counts .exit) .finished) (now (crc .exit) .register) (vec-len (now (counts .exit) .changes)) r) ⌝ }
+    ensures takes { λ r. ⌜ TakesEntry count place entry (now (counts .entry)) (now (crc .entry)) (now (counts .exit)) (now (crc .exit)) r ⌝ }
     ensures room { λ _. ⌜ now (counts .exit) .room ≡ now (counts .entry) .room ⌝ }
 {
     if entry.number <= counts.latest(entry.source) {
@@ -208,7 +209,7 @@ fn end_transaction(
     counts: &mut Counts,
     crc: &mut Crc,
 ) -> Result<bool, LogFault>
-    ensures takes { λ r. ⌜ ((k : Reading) → Holds count (vec-items (now (counts .entry) .changes)) (now (counts .entry) .finished) (now (crc .entry) .register) k → Takes (met count place (entry 1 sum) k) count place (now (counts .entry) .room) (vec-len (now (counts .entry) .changes)) (vec-items (now (counts .exit) .changes)) (now (counts .exit) .finished) (now (crc .exit) .register) (vec-len (now (counts .exit) .changes)) r) ⌝ }
+    ensures takes { λ r. ⌜ TakesEntry count place (entry 1 sum) (now (counts .entry)) (now (crc .entry)) (now (counts .exit)) (now (crc .exit)) r ⌝ }
     ensures room { λ _. ⌜ now (counts .exit) .room ≡ now (counts .entry) .room ⌝ }
 {
     if crc.finish() != sum {

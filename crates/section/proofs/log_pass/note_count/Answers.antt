@@ -1,8 +1,7 @@
 -- A count: not above the last, one too many, or noted.
-use mathlib.Core.Path.{_≡_, refl, sym, ap, _∙_}
+use mathlib.Core.Path.{refl, sym, _∙_}
 use mathlib.Core.List.{[], _∷_, _++_}
 use native.Mathlib.Omega.{arith}
-use Rattle.std.specs.Of.Vec.{vec-items, vec-len}
 use Rattle.std.proofs.shelf.Tests.{ltb-false, cond-true}
 use Rattle.model.specs.OpenedLog.{reading}
 use Rattle.section.proofs.OneEntry.{met-backward, met-count, holds-count}

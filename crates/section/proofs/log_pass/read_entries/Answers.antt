@@ -1,12 +1,12 @@
 -- Each entry is a step of the log's definition.
-use mathlib.Core.Path.{_≡_, refl, sym, ap, _∙_}
+use mathlib.Core.Path.{ap, _∙_}
 use Prim.Native.Nat.{_≤_, _<_}
 use native.Mathlib.Omega.{arith}
 use Rattle.std.specs.Of.Vec.{vec-items, vec-len}
 use Rattle.std.specs.declared.result.Result.the-variants.{Err}
 use Rattle.std.proofs.shelf.Results.{err-from-errBy}
 use Rattle.model.specs.LogFragments.{entries-in}
-use Rattle.section.proofs.Entries.{going-none, more-at, ends-at, wrong-at, going-all}
+use Rattle.section.proofs.Entries.{more-at, ends-at, wrong-at, going-all}
 use Rattle.section.proofs.log_pass.read_entries.Needs as need
 
 pub returns-in-Break-take-entry : need.returns-in-Break-take-entry

@@ -1,3 +1,4 @@
+-- At each fragment: what is left gives what the whole gives; the rest of the room stays.
 use mathlib.Core.Path.{_≡_}
 use Rattle.std.specs.Of.Vec.{vec-items, vec-len}
 use Rattle.section.proofs.Fragments.{Walking}
