@@ -1,0 +1,3 @@
+pub mod NodeSteps
+pub mod Queued
+pub mod Walkings

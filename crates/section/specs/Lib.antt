@@ -1,2 +1,5 @@
 pub mod Refusals
 pub mod Places
+pub mod Walks
+pub mod Queues
+pub mod Parts

@@ -2,6 +2,9 @@
 ghost use mathlib.Core.Path.{_≡_};
 ghost use Prim.Native.Nat.{_+_, _-_, _^_, _≤_, _<_};
 ghost use Rattle.std.specs.Results.{Cases};
+ghost use Rattle.std.specs.Of.Vec.{vec-items};
+ghost use Rattle.section.specs.Queues.{Names, name-of};
+ghost use Rattle.section.specs.Parts.{Walks};
 use crate::faults::InList;
 use crate::faults::ListFault;
 use crate::node_walk::is_bad;
@@ -15,6 +18,7 @@ use crate::room::Named;
 use crate::room::Room;
 use crate::room::Row;
 use crate::places::is_outside;
+use format::nodes::NodeHead;
 use format::fetching::u32_at;
 use format::fetching::u64_at;
 use format::references::is_absent;
@@ -156,7 +160,11 @@ fn check_first(room: &Room, list: u32, fragment: Span) -> Result<u32, InList>
 fn read_nodes<S: Store>(store: &S, list: u32, fragment: Span, left: u32, room: &mut Room) -> Result<Part, InList>
     requires inside { ⌜ fragment .start + fragment .size ≤ 2 ^ 40 ⌝ }
     requires least { ⌜ 36 ≤ fragment .size ⌝ }
-    ensures { λ r. ⌜ Cases r (λ p. p .nodes ≤ left) (λ _. Unit {0}) ⌝ }
+    ensures answer { λ r. ⌜ Walks (S·Store .bytes (now (store .entry))) left list fragment (vec-items (now (room .entry) .queue)) (vec-items (now (room .exit) .queue)) r ⌝ }
+    ensures few { λ r. ⌜ Cases r (λ p. p .nodes ≤ left) (λ _. Unit {0}) ⌝ }
+    ensures counts { λ _. ⌜ now (room .exit) .counts ≡ now (room .entry) .counts ⌝ }
+    ensures fragments { λ _. ⌜ now (room .exit) .fragments ≡ now (room .entry) .fragments ⌝ }
+    ensures lists { λ _. ⌜ now (room .exit) .lists ≡ now (room .entry) .lists ⌝ }
 {
     let stop = nodes_to(fragment);
     let mut place = nodes_from(fragment);
@@ -167,10 +175,21 @@ fn read_nodes<S: Store>(store: &S, list: u32, fragment: Span, left: u32, room: &
         if is_bad(&node.head, place, stop) {
             return Err(InList { fault: ListFault::Node { place }, list });
         }
-        if node.head.base == 2 && !is_absent(node.reference) {
-            room.name(place + 4, node.reference);
-        }
+        name_list(room, place, node);
         place += node.head.size as u64;
     }
     Ok(Part { nodes: left, free: place })
+}
+
+// Names the list that the node at `place` refers to, if it does.
+fn name_list(room: &mut Room, place: u64, node: NodeHead)
+    requires { ⌜ place ≤ 2 ^ 40 ⌝ }
+    ensures queue { λ _. ⌜ Names (vec-items (now (room .entry) .queue)) (name-of place (node .head .base) (node .reference)) (vec-items (now (room .exit) .queue)) ⌝ }
+    ensures counts { λ _. ⌜ now (room .exit) .counts ≡ now (room .entry) .counts ⌝ }
+    ensures fragments { λ _. ⌜ now (room .exit) .fragments ≡ now (room .entry) .fragments ⌝ }
+    ensures lists { λ _. ⌜ now (room .exit) .lists ≡ now (room .entry) .lists ⌝ }
+{
+    if node.head.base == 2 && !is_absent(node.reference) {
+        room.name(place + 4, node.reference);
+    }
 }

@@ -1,8 +1,10 @@
 //! The room that opening works in: reserved at once, so that opening itself never wants memory.
 ghost use mathlib.Core.Path.{_≡_};
+ghost use mathlib.Core.List.{[], _∷_};
 ghost use Prim.Native.Nat.{_+_, _≤_};
 ghost use Rattle.std.specs.Of.Vec.{vec-items, vec-len, vec-cap};
 ghost use Rattle.section.specs.Places.{Alike, Admits};
+ghost use Rattle.section.specs.Queues.{Names};
 use crate::places::Misplaced;
 use crate::places::is_in_header;
 use crate::places::is_outside;
@@ -96,7 +98,12 @@ impl Room {
     }
 
     // Names a list behind all that were named before it.
-    pub(crate) fn name(&mut self, field: u64, span: Span) {
+    pub(crate) fn name(&mut self, field: u64, span: Span)
+        ensures queue { λ _. ⌜ Names (vec-items (now (self .entry) .queue)) ((field, span) ∷ []) (vec-items (now (self .exit) .queue)) ⌝ }
+        ensures counts { λ _. ⌜ now (self .exit) .counts ≡ now (self .entry) .counts ⌝ }
+        ensures fragments { λ _. ⌜ now (self .exit) .fragments ≡ now (self .entry) .fragments ⌝ }
+        ensures lists { λ _. ⌜ now (self .exit) .lists ≡ now (self .entry) .lists ⌝ }
+    {
         if self.queue.len() < MOST_NAMED {
             self.queue.push_reserved(Named { field, span });
         }
