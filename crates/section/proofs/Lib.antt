@@ -1,3 +1,5 @@
 pub mod NodeSteps
 pub mod Queued
 pub mod Walkings
+pub mod RowSteps
+pub mod ListSteps

@@ -1,6 +1,7 @@
 -- One name more in a queue that holds the first 1,025 of all.
 use Prim.Native.Nat.{ℕ, _≤_, _<_}
 use mathlib.Core.Path.{_≡_, sym, ap, _∙_}
+use mathlib.Core.Bool.{Bool, true, false, cond}
 use mathlib.Core.List.{List, [], _∷_, _++_, map, append-assoc, append-nil}
 use lib.ListN.{length, take}
 use native.Mathlib.Omega.{arith}
@@ -26,3 +27,10 @@ names-none q all h = h ∙ ap (take 1025) (sym (append-nil all))
 
 pub names-more : (q r s : List Named) (xs ys : List (ℕ × Span)) → Names q xs r → Names r ys s → Names q (xs ++ ys) s
 names-more q r s xs ys f g all h = g (all ++ xs) (f all h) ∙ ap (take 1025) (append-assoc all xs ys)
+
+-- a name that goes in by a test
+pub named-then : (t : Bool) (q r : List Named) (x : ℕ × Span) → true ≡ t → Names q (x ∷ []) r → Names q (cond t (x ∷ []) []) r
+named-then t q r x e n = rw (← e) n
+
+pub named-else : (t : Bool) (q : List Named) (x : ℕ × Span) → false ≡ t → Names q (cond t (x ∷ []) []) q
+named-else t q x e = rw (← e) (names-none q)

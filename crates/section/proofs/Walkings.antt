@@ -33,7 +33,7 @@ referring-more base (n ∷ ns) m = let ih = referring-more base ns m in grind ar
 
 names-of-one : (m : Node) → names-of (m ∷ []) ≡ name-of (m .place) (m .base) (m .reference)
 unfolding referring
-names-of-one m = elim (cases-bool (eqb (m .base) 2 && present (m .reference))) [ inl a ↦ rw (a, a) | inr a ↦ rw (a, a) ]
+names-of-one m = elim (cases-bool (eqb (m .base) 2 && present (m .reference))) [ inl a ↦ rw a | inr a ↦ rw a ]
 
 names-of-more : (ns : List Node) (m : Node) → names-of (ns ++ (m ∷ [])) ≡ names-of ns ++ name-of (m .place) (m .base) (m .reference)
 names-of-more ns m =
@@ -72,30 +72,35 @@ walking-more b left list stop from k place was is after h r w l o e f d n =
     }
 
 -- the fragment hands over, a node is wrong, or the count is reached
-pub walked-over : (b : List ℕ) (left list : ℕ) (f : Span) (k place : ℕ) (was is : List Named) → Walking b left list (nodes-to f) (nodes-from f) k place was is
-    → k < left → hands-over (le 4 b place) (nodes-to f) place ≡ true → Walked b left list f k place was is
-walked-over b left list f k place was is w l o =
+pub walked-over : (b : List ℕ) (left list : ℕ) (f : Span) (stop from k place : ℕ) (was is : List Named) → stop ≡ nodes-to f → from ≡ nodes-from f
+    → Walking b left list stop from k place was is → k < left → hands-over (le 4 b place) stop place ≡ true → Walked b left list f k place was is
+walked-over b left list f stop from k place was is t u w l o =
     let e : eqb k left ≡ false = grind (arith, tells) in
     record {
       nodes = w .nodes;
       number = w .number;
       names = w .names;
-      gives = λ ns. w .goes ns ∙ walk-over (left - k) b list (nodes-to f) place (ns ++ w .nodes) (omega arith) o ∙ rw e;
+      gives = λ ns.
+          ap₂ (λ x y. nodes-at left b list x y ns) (sym t) (sym u) ∙ w .goes ns
+          ∙ walk-over (left - k) b list stop place (ns ++ w .nodes) (omega arith) o ∙ rw e;
     }
 
-pub walked-bad : (b : List ℕ) (left list : ℕ) (f : Span) (k place : ℕ) (was is : List Named) (h : Head) → Walking b left list (nodes-to f) (nodes-from f) k place was is
-    → k < left → hands-over (le 4 b place) (nodes-to f) place ≡ false → h ≡ head-of (le 4 b place) → true ≡ bad-head h (nodes-to f) place
-    → (ns : List Node) → nodes-at left b list (nodes-to f) (nodes-from f) ns ≡ refused (fault 9 3 place list)
-walked-bad b left list f k place was is h w l o e d ns =
-    w .goes ns ∙ walk-bad (left - k) b list (nodes-to f) place (ns ++ w .nodes) (omega arith) o (sym (bad-is h (le 4 b place) (nodes-to f) place e) ∙ sym d)
+pub walked-bad : (b : List ℕ) (left list : ℕ) (f : Span) (stop from k place : ℕ) (was is : List Named) (h : Head) → stop ≡ nodes-to f → from ≡ nodes-from f
+    → Walking b left list stop from k place was is → k < left → hands-over (le 4 b place) stop place ≡ false → h ≡ head-of (le 4 b place)
+    → true ≡ bad-head h stop place → (ns : List Node) → nodes-at left b list (nodes-to f) (nodes-from f) ns ≡ refused (fault 9 3 place list)
+walked-bad b left list f stop from k place was is h t u w l o e d ns =
+    ap₂ (λ x y. nodes-at left b list x y ns) (sym t) (sym u) ∙ w .goes ns
+    ∙ walk-bad (left - k) b list stop place (ns ++ w .nodes) (omega arith) o (sym (bad-is h (le 4 b place) stop place e) ∙ sym d)
 
-pub walked-end : (b : List ℕ) (left list : ℕ) (f : Span) (k place : ℕ) (was is : List Named) → Walking b left list (nodes-to f) (nodes-from f) k place was is
-    → k ≡ left → Walked b left list f left place was is
-walked-end b left list f k place was is w l =
+pub walked-end : (b : List ℕ) (left list : ℕ) (f : Span) (stop from k place : ℕ) (was is : List Named) → stop ≡ nodes-to f → from ≡ nodes-from f
+    → Walking b left list stop from k place was is → k ≡ left → Walked b left list f left place was is
+walked-end b left list f stop from k place was is t u w l =
     let e : eqb left left ≡ true = grind (arith, tells) in
     record {
       nodes = w .nodes;
       number = sym l ∙ w .number;
       names = w .names;
-      gives = λ ns. w .goes ns ∙ walk-end (left - k) b list (nodes-to f) place (ns ++ w .nodes) (omega arith) ∙ rw e;
+      gives = λ ns.
+          ap₂ (λ x y. nodes-at left b list x y ns) (sym t) (sym u) ∙ w .goes ns
+          ∙ walk-end (left - k) b list stop place (ns ++ w .nodes) (omega arith) ∙ rw e;
     }
