@@ -3,3 +3,4 @@ pub mod Queued
 pub mod Walkings
 pub mod RowSteps
 pub mod ListSteps
+pub mod ListWalks

@@ -26,24 +26,26 @@ use Rattle.section.specs.Parts.{Walking, Walked}
 use Rattle.section.proofs.NodeSteps.{bad-is, walk-over, walk-bad, walk-on, walk-end}
 use Rattle.section.proofs.Queued.{names-none, names-more}
 
-referring-more : (base : ℕ) (ns : List Node) (m : Node) → referring base (ns ++ (m ∷ [])) ≡ referring base ns ++ referring base (m ∷ [])
-unfolding referring
-referring-more base [] m = refl
-referring-more base (n ∷ ns) m = let ih = referring-more base ns m in grind arith
-
 names-of-one : (m : Node) → names-of (m ∷ []) ≡ name-of (m .place) (m .base) (m .reference)
 unfolding referring
 names-of-one m = elim (cases-bool (eqb (m .base) 2 && present (m .reference))) [ inl a ↦ rw a | inr a ↦ rw a ]
 
-names-of-more : (ns : List Node) (m : Node) → names-of (ns ++ (m ∷ [])) ≡ names-of ns ++ name-of (m .place) (m .base) (m .reference)
-names-of-more ns m =
-    ap (map (λ n. (field-of n, n .reference))) (referring-more 2 ns m)
-    ∙ map-append (λ n. (field-of n, n .reference)) (referring 2 ns) (referring 2 (m ∷ []))
-    ∙ ap (λ xs. names-of ns ++ xs) (names-of-one m)
-
-names-of-none : names-of [] ≡ []
+pub names-of-none : names-of [] ≡ []
 unfolding referring
 names-of-none = refl
+
+referring-both : (base : ℕ) (ns ms : List Node) → referring base (ns ++ ms) ≡ referring base ns ++ referring base ms
+unfolding referring
+referring-both base [] ms = refl
+referring-both base (n ∷ ns) ms = let ih = referring-both base ns ms in grind arith
+
+-- what two rows of nodes name
+pub names-of-both : (ns ms : List Node) → names-of (ns ++ ms) ≡ names-of ns ++ names-of ms
+names-of-both ns ms =
+    ap (map (λ n. (field-of n, n .reference))) (referring-both 2 ns ms) ∙ map-append (λ n. (field-of n, n .reference)) (referring 2 ns) (referring 2 ms)
+
+names-of-more : (ns : List Node) (m : Node) → names-of (ns ++ (m ∷ [])) ≡ names-of ns ++ name-of (m .place) (m .base) (m .reference)
+names-of-more ns m = names-of-both ns (m ∷ []) ∙ ap (λ xs. names-of ns ++ xs) (names-of-one m)
 
 pub walking-none : (b : List ℕ) (left list stop from : ℕ) (was : List Named) → Walking b left list stop from 0 from was was
 walking-none b left list stop from was = record {
