@@ -4,3 +4,4 @@ pub mod Walkings
 pub mod RowSteps
 pub mod ListSteps
 pub mod ListWalks
+pub mod FirstSteps

@@ -4,9 +4,10 @@ use mathlib.Core.Path.{_≡_, refl, sym, ap, ap₂, _∙_}
 use mathlib.Core.Bool.{Bool, true, false, cond}
 use mathlib.Core.List.{List, [], _∷_, _++_, map, append-assoc, append-nil}
 use lib.Dec.{eqb}
-use lib.ListN.{length}
+use lib.ListN.{length, take}
+use lib.Seq.{take-append-seam}
 use native.Mathlib.Omega.{arith}
-use Rattle.std.proofs.shelf.Lists.{map-append, length-append}
+use Rattle.std.proofs.shelf.Lists.{length-append, length-take}
 use Rattle.std.proofs.shelf.Ways.{tells}
 use Rattle.std.specs.Results.{ErrBy}
 use Rattle.std.specs.declared.option.Option.{Option}
@@ -26,7 +27,7 @@ use Rattle.section.specs.declared.room.Row.{Row}
 use Rattle.section.specs.declared.room.Named.{Named}
 use Rattle.section.specs.declared.lists_pass.Begun.{Begun}
 use Rattle.section.specs.Refusals.{list-told}
-use Rattle.section.specs.Queues.{Names, names-of}
+use Rattle.section.specs.Queues.{pair-of, Names, names-of}
 use Rattle.section.specs.Rows.{row-of}
 use Rattle.section.specs.Parts.{Walked}
 use Rattle.section.specs.Checked.{told-by, next-checks}
@@ -137,6 +138,16 @@ listing-refused b end before x f n k m free all was is after e i p l t ls =
     ∙ later-refused (2048 - (length before + n)) b end (x .count) ls before (x .list) (nodes-to f) (span-at b (nodes-to f)) gs (i .nodes ++ p .nodes) e
       (omega (arith, i .sequence)) (fuel before gs n s) (sym (checks-at b end (x .list) f n all before gs (i .held) s) ∙ t)
 
+-- the same with other terms for the fragments and the queue
+pub listing-at : (b : List ℕ) (end : ℕ) (before : List Span) (x : Begun) (f : Span) (n k : ℕ) (all there : List Span) (was is : List Named)
+    → there ≡ all → Listing b end before x f n k all was is → Listing b end before x f n k there was is
+listing-at b end before x f n k all there was is e i =
+    record { fs = i .fs; nodes = i .nodes; sequence = i .sequence; number = i .number; held = e ∙ i .held; names = i .names; goes = i .goes }
+
+pub walked-at : (b : List ℕ) (left list : ℕ) (f : Span) (k free : ℕ) (was is there : List Named) → there ≡ is → Walked b left list f k free was is → Walked b left list f k free was there
+walked-at b left list f k free was is there e p =
+    record { nodes = p .nodes; number = p .number; names = λ all h. ap (map pair-of) e ∙ p .names all h; gives = p .gives }
+
 -- a refusal handed on is the same refusal
 pub rests-err : {T : Type 0} (b : List ℕ) (end : ℕ) (before : List Span) (x : Begun) (rows more : List Row) (all : List Span) (was is : List Named) (r : Result T InList) (e : InList)
     → ErrBy r (λ y. y ≡ e) → ((ls : List NodeList) → rest-of b end (x .count) before (x .list) ls (x .fragment) [] [] ≡ refused (list-told e))
@@ -150,3 +161,15 @@ pub listing-few : (b : List ℕ) (end : ℕ) (before : List Span) (x : Begun) (f
 listing-few b end before x f n k all was is i l h =
     let s = long (i .fs) f n (i .sequence) in
     omega (arith, ap length (i .held), length-append before (i .fs ++ (f ∷ [])))
+
+-- where a list's first fragment stands
+pub taken-first : (items : List Span) (n : ℕ) (f : Span) → items ≡ take n items ++ (f ∷ []) → length (take n items) ≡ n
+taken-first items n f h = omega (arith, ap length h, length-take n items, length-append (take n items) (f ∷ []))
+
+pub held-first : (items before : List Span) (f g : Span) (n : ℕ) → items ≡ before ++ (g ∷ []) → f ≡ g → n ≡ length before → items ≡ take n items ++ (f ∷ [])
+held-first items before f g n h e m =
+    let t : take n items ≡ before = ap₂ take m h ∙ take-append-seam before (g ∷ []) in
+    h ∙ ap₂ (λ xs y. xs ++ (y ∷ [])) (sym t) (sym e)
+
+pub first-before : (items before : List Span) (g : Span) (n : ℕ) → items ≡ before ++ (g ∷ []) → n ≡ length before → take n items ≡ before
+first-before items before g n h m = ap₂ take m h ∙ take-append-seam before (g ∷ [])

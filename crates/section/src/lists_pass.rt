@@ -14,7 +14,7 @@ ghost use Rattle.model.specs.ListFragments.{owner, nodes-to};
 ghost use Rattle.model.specs.OpenedLog.{outside};
 ghost use Rattle.section.specs.Refusals.{list-fault};
 ghost use Rattle.section.specs.Checked.{Checked, place-checks, label-checks, mislabelled, first-checks, next-checks, begin-checks};
-ghost use Rattle.section.specs.Listings.{Begins, Rests};
+ghost use Rattle.section.specs.Listings.{Begins, Rests, Lists};
 ghost use Rattle.section.specs.Queues.{Names, name-of};
 ghost use Rattle.section.specs.Parts.{Walks};
 use crate::faults::InList;
@@ -90,6 +90,8 @@ pub(crate) fn read_lists<S: Store>(store: &S, header: &Header, room: &mut Room) 
 // Reads the list that a reference names, unless there are as many as there may be.
 fn read_list<S: Store>(store: &S, end: u64, room: &mut Room, named: Named) -> Result<(), InList>
     requires { ⌜ end ≤ 2 ^ 40 ⌝ }
+    ensures answer { λ r. ⌜ Lists (S·Store .bytes (now (store .entry))) end (vec-items (now (room .entry) .counts .changes)) (vec-items (now (room .entry) .fragments)) (vec-items (now (room .entry) .lists)) named (vec-items (now (room .exit) .lists)) (vec-items (now (room .exit) .fragments)) (vec-items (now (room .entry) .queue)) (vec-items (now (room .exit) .queue)) r ⌝ }
+    ensures counts { λ _. ⌜ now (room .exit) .counts ≡ now (room .entry) .counts ⌝ }
 {
     if room.lists.len() >= MOST_LISTS {
         return Err(InList { fault: too_many(end, named), list: 0 });
