@@ -104,16 +104,16 @@ listing-more b end before x f n k m free all was is after g more i p l e t h =
           ∙ ap (λ y. rest-of b end (x .count) before (x .list) ls y gs (i .nodes ++ p .nodes)) (sym e);
     }
 
-pub listing-whole : (b : List ℕ) (end : ℕ) (before : List Span) (x : Begun) (f : Span) (n k m free : ℕ) (all : List Span) (was is after : List Named) (rows more : List Row) (row : Row)
+pub listing-whole : (b : List ℕ) (end : ℕ) (before : List Span) (x : Begun) (f : Span) (n k m free : ℕ) (all : List Span) (was is after : List Named) (rows there more : List Row) (row : Row)
     → Listing b end before x f n k all was is → Walked b (x .count - k) (x .list) f m free is after → k + m ≡ x .count → length before ≡ x .first
-    → more ≡ rows ++ (row ∷ []) → row ≡ record { id = x .list; first = x .first; fragments = n; nodes = k + m; free = free }
+    → more ≡ there ++ (row ∷ []) → there ≡ rows → row ≡ record { id = x .list; first = x .first; fragments = n; nodes = k + m; free = free }
     → Rested b end before x rows more all was after
-listing-whole b end before x f n k m free all was is after rows more row i p l a h e =
+listing-whole b end before x f n k m free all was is after rows there more row i p l a h o e =
     let s : n ≡ length (i .fs ++ (f ∷ [])) = long (i .fs) f n (i .sequence) in
     let c : k + m ≡ length (i .nodes ++ p .nodes) = omega (arith, length-append (i .nodes) (p .nodes), i .number, p .number) in
     record {
       list = record { id = x .list; fragments = i .fs ++ (f ∷ []); nodes = i .nodes ++ p .nodes; free = free };
-      row = h ∙ ap (λ r. rows ++ (r ∷ [])) (e ∙ cc);
+      row = h ∙ ap₂ (λ rs r. rs ++ (r ∷ [])) o (e ∙ cc);
       held = i .held;
       names = rw (names-of-both (i .nodes) (p .nodes)) (names-more was is after (names-of (i .nodes)) (names-of (p .nodes)) (i .names) (p .names));
       gives = λ ls.

@@ -26,10 +26,10 @@ returns-then-nodes-begun g c =
     let r = c .read-nodes .ensures in
     let a = c .add-list .ensures in
     record {
-      answer = listing-whole _ _ _ (c .args .begun) (c .loop-sequence .fragment) _ _ _ (c .in-Continue-part .part .free) _ _ _ _ _ _ _
+      answer = listing-whole _ _ _ (c .args .begun) (c .loop-sequence .fragment) _ _ _ (c .in-Continue-part .part .free) _ _ _ _ _ _ _ _
           (listing-at _ _ _ (c .args .begun) (c .loop-sequence .fragment) _ _ _ _ _ _ (ap vec-items (a .fragments ∙ r .fragments)) (i .6))
           (walked-at _ _ _ (c .loop-sequence .fragment) _ _ _ _ _ (ap vec-items (a .queue)) (c .in-Continue-part .ensures tt .answer))
-          (c .if-nodes-begun .taken) (taken-first _ _ _ (c .pre .held)) (a .lists ∙ ap (λ v. vec-items v ++ (_ ∷ [])) (r .lists ∙ i .5)) refl;
+          (c .if-nodes-begun .taken) (taken-first _ _ _ (c .pre .held)) (a .lists) (ap vec-items (r .lists ∙ i .5)) refl;
       counts = a .counts ∙ r .counts ∙ i .4;
     }
 
@@ -58,7 +58,14 @@ loop-sequence-again g c =
       omega arith,
       next .1,
       next .2,
-      omega (arith, ap length (next .4), length-append (vec-items (c .read-nodes .last .room .fragments)) (c .in-Continue-fragment .fragment ∷ [])),
+      omega (
+        arith,
+        ap length (next .4),
+        length-append (vec-items (c .read-nodes .last .room .fragments)) (c .in-Continue-fragment .fragment ∷ []),
+        c .read-nodes .last .room .fragments .ok .0,
+        c .next-fragment .last .room .fragments .ok .0,
+        next .3
+      ),
       n .counts ∙ r .counts ∙ i .4,
       n .lists ∙ r .lists ∙ i .5,
       listing-more _ _ _ (c .args .begun) (c .loop-sequence .fragment) _ _ _ _ _ _ _ _ (c .in-Continue-fragment .fragment) _
