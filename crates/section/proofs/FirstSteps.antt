@@ -83,9 +83,9 @@ pub checked-err : {T : Type 0} (cs : List Check) (r : Result T InList) (e : InLi
 checked-err cs (Ok u) e h q = absurd h
 checked-err cs (Err y) e h q = q ∙ ap (λ z. Some (list-told z)) (sym h)
 
-pub none-err : {T : Type 0} {P : T → Type 0} (r : Result T InList) (e : InList) → ErrBy r (λ y. y ≡ e) → Cases r P (λ _. Unit {0})
-none-err (Ok u) e h = absurd h
-none-err (Err y) e h = tt
+pub none-err : {T : Type 0} (P : T → Type 0) (r : Result T InList) (e : InList) → ErrBy r (λ y. y ≡ e) → Cases r P (λ _. Unit {0})
+none-err P (Ok u) e h = absurd h
+none-err P (Err y) e h = tt
 
 -- a list with its first fragment and without
 list-few : (b : List ℕ) (end : ℕ) (cs : List Change) (before : List Span) (rows : List Row) (ls : List NodeList) (q : Named) → length rows < 1024

@@ -6,15 +6,14 @@ use Rattle.section.proofs.lists_pass.begin_list.Needs as need
 pub returns-in-Break-count : need.returns-in-Break-count
 returns-in-Break-count g c =
     let t = c .take-in .ensures in
-    let r = c .from-residual-in-Break-count .result in
     let e = c .in-Break-count .field-0 .0 in
     let h = c .from-residual-in-Break-count .ensures .1 in
     record {
       answer = checked-err _ (c .from-residual-in-Break-count .result) e h
           (begun-told _ _ _ _ _ _ _ (c .args .named) (c .owner-list .result) _ (c .owner-list .ensures) (ap vec-items (t .lists)) (ap (λ k. vec-items (k .changes)) (t .counts))
           (c .in-Continue-take-in .ensures tt .answer) (c .in-Continue-check-fragment .ensures tt) (c .in-Break-count .ensures tt .answer));
-      begun = none-err (c .from-residual-in-Break-count .result) e h;
-      fragments = none-err (c .from-residual-in-Break-count .result) e h;
+      begun = none-err _ (c .from-residual-in-Break-count .result) e h;
+      fragments = none-err _ (c .from-residual-in-Break-count .result) e h;
       counts = t .counts;
       lists = t .lists;
       queue = t .queue;
