@@ -5,3 +5,5 @@ pub mod RowSteps
 pub mod ListSteps
 pub mod ListWalks
 pub mod FirstSteps
+pub mod FirstNames
+pub mod Openings

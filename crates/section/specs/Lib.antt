@@ -6,3 +6,4 @@ pub mod Parts
 pub mod Rows
 pub mod Checked
 pub mod Listings
+pub mod Opening

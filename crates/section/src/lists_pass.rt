@@ -11,11 +11,14 @@ ghost use Rattle.counts.specs.Noted.{noted};
 ghost use Rattle.model.specs.Faults.{fault};
 ghost use Rattle.model.specs.References.{present, span-at};
 ghost use Rattle.model.specs.ListFragments.{owner, nodes-to};
+ghost use Rattle.model.specs.Section.{Log};
 ghost use Rattle.model.specs.OpenedLog.{outside};
+ghost use Rattle.model.specs.OpenedLists.{named-first};
 ghost use Rattle.section.specs.Refusals.{list-fault};
 ghost use Rattle.section.specs.Checked.{Checked, place-checks, label-checks, mislabelled, first-checks, next-checks, begin-checks};
 ghost use Rattle.section.specs.Listings.{Begins, Rests, Lists};
-ghost use Rattle.section.specs.Queues.{Names, name-of};
+ghost use Rattle.section.specs.Opening.{Holds, ReadsAll};
+ghost use Rattle.section.specs.Queues.{Held, Names, name-of};
 ghost use Rattle.section.specs.Parts.{Walks};
 use crate::faults::InList;
 use crate::faults::ListFault;
@@ -69,14 +72,36 @@ struct Begun {
     fragment: Span,
 }
 
-// Reads all lists: the root, the hashed chunk list unless it is absent, and then those that are met.
+// Reads all lists: those that the header names, and then those that are met.
 pub(crate) fn read_lists<S: Store>(store: &S, header: &Header, room: &mut Room) -> Result<(), InList>
     requires { ⌜ now header .end ≤ 2 ^ 40 ⌝ }
+    ensures answer { λ r. ⌜ ((log : Log) → Holds log (vec-items (now (room .entry) .counts .changes)) (vec-items (now (room .entry) .fragments)) (vec-items (now (room .entry) .lists)) → vec-items (now (room .entry) .queue) ≡ [] → ReadsAll (S·Store .bytes (now (store .entry))) (now (header .entry)) log (vec-items (now (room .exit) .lists)) (vec-items (now (room .exit) .fragments)) r) ⌝ }
+    ensures counts { λ _. ⌜ now (room .exit) .counts ≡ now (room .entry) .counts ⌝ }
+{
+    name_first(header, room);
+    read_named(store, header, room)
+}
+
+// Names the root, and the hashed chunk list unless it is absent.
+fn name_first(header: &Header, room: &mut Room)
+    ensures queue { λ _. ⌜ Names (vec-items (now (room .entry) .queue)) (named-first (now (header .entry))) (vec-items (now (room .exit) .queue)) ⌝ }
+    ensures counts { λ _. ⌜ now (room .exit) .counts ≡ now (room .entry) .counts ⌝ }
+    ensures fragments { λ _. ⌜ now (room .exit) .fragments ≡ now (room .entry) .fragments ⌝ }
+    ensures lists { λ _. ⌜ now (room .exit) .lists ≡ now (room .entry) .lists ⌝ }
 {
     room.name(ROOT_FIELD, header.root);
-    if !is_absent(header.hashed) {
-        room.name(HASHED_FIELD, header.hashed);
+    if is_absent(header.hashed) {
+        return;
     }
+    room.name(HASHED_FIELD, header.hashed);
+}
+
+// Reads the lists of the queue, each whole before the next; it grows by those that are met.
+fn read_named<S: Store>(store: &S, header: &Header, room: &mut Room) -> Result<(), InList>
+    requires { ⌜ now header .end ≤ 2 ^ 40 ⌝ }
+    ensures answer { λ r. ⌜ ((log : Log) → Holds log (vec-items (now (room .entry) .counts .changes)) (vec-items (now (room .entry) .fragments)) (vec-items (now (room .entry) .lists)) → Held (vec-items (now (room .entry) .queue)) (named-first (now (header .entry))) → ReadsAll (S·Store .bytes (now (store .entry))) (now (header .entry)) log (vec-items (now (room .exit) .lists)) (vec-items (now (room .exit) .fragments)) r) ⌝ }
+    ensures counts { λ _. ⌜ now (room .exit) .counts ≡ now (room .entry) .counts ⌝ }
+{
     for next in 0..MOST_LISTS + 1 {
         if next >= room.queue.len() {
             return Ok(());
