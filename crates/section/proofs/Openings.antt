@@ -3,7 +3,7 @@ use Prim.Native.Nat.{ℕ, zero, suc, _+_, _-_, _≤_, _<_}
 use mathlib.Core.Path.{_≡_, refl, sym, ap, ap₂, _∙_}
 use mathlib.Core.Bool.{Bool, true, false, cond, _||_}
 use mathlib.Core.List.{List, [], _∷_, _++_, map, append-assoc, append-nil}
-use mathlib.Core.Logic.{inl, inr}
+use mathlib.Core.Logic.{_⊎_, inl, inr}
 use lib.Dec.{eqb, ltb}
 use lib.ListN.{length, getD, take, drop}
 use lib.Seq.{drop-cons}
@@ -169,3 +169,18 @@ pub reads-err : {T : Type 0} (b : List ℕ) (h : Header) (log : Log) (rows : Lis
     → lists-from 1024 b h log (named-first h) [] ≡ refused (list-told e) → ReadsAll b h log rows all r
 reads-err b h log rows all (Ok u) e h′ q = absurd h′
 reads-err b h log rows all (Err y) e h′ q = q ∙ ap (λ z. refused (list-told z)) (sym h′)
+
+pub listed-few : (b : List ℕ) (end : ℕ) (cs : List Change) (before : List Span) (rows : List Row) (q : Named) (after : List Row) (all : List Span) (was is : List Named)
+    → Listed b end cs before rows q after all was is → length after ≤ 1024
+listed-few b end cs before rows q after all was is x =
+    omega (arith, x .few, ap length (x .row), length-append rows (row-of (length before) (x .list) ∷ []))
+
+-- there is no 1,025th list
+pub opening-few : (b : List ℕ) (h : Header) (log : Log) (n : ℕ) (rows : List Row) (all : List Span) (queue : List Named) → Opening b h log n rows all queue
+    → (length rows ≤ 1024) ⊎ (n ≡ 0) → 1024 < n → ⊥
+opening-few b h log n rows all queue o (inl f) l = omega (arith, opening-length b h log n rows all queue o)
+opening-few b h log n rows all queue o (inr f) l = omega arith
+
+-- the same with other terms for the room's parts
+pub holds-at : (log : Log) (cs now : List Change) (all there : List Span) (rows are : List Row) → now ≡ cs → there ≡ all → are ≡ rows → Holds log cs all rows → Holds log now there are
+holds-at log cs now all there rows are c f r h = record { counts = λ id. ap (λ k. noted k id) c ∙ h .counts id; fragments = f ∙ h .fragments; none = r ∙ h .none }
