@@ -1,2 +1,3 @@
 pub mod Fetched
 pub mod Numbers
+pub mod Referred

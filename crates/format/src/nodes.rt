@@ -3,7 +3,10 @@ ghost use mathlib.Core.Path.{_≡_};
 ghost use Prim.Native.Nat.{_<_, _≤_};
 ghost use lib.ListN.{length, drop};
 ghost use Rattle.std.specs.Options.{Cases};
+ghost use mathlib.Core.Bool.{cond};
 ghost use Rattle.model.specs.Bytes.{le};
+ghost use Rattle.model.specs.References.{span, span-in};
+ghost use Rattle.model.specs.Nodes.{refers, node-at};
 ghost use Rattle.format.specs.Heads.{head-of};
 use crate::fetching::fetch;
 use crate::references::reference;
@@ -56,22 +59,29 @@ pub fn split(node: &[u8]) -> Option<(Head, &[u8])>
 }
 
 /// The head and the reference of the node at `place`.
-pub fn node_at<S: Store>(store: &S, place: u64) -> NodeHead {
+pub fn node_at<S: Store>(store: &S, place: u64) -> NodeHead
+    ensures head { λ r. ⌜ r .head ≡ head-of (le 4 (S·Store .bytes (now (store .entry))) place) ⌝ }
+    ensures reference { λ r. ⌜ r .reference ≡ node-at (S·Store .bytes (now (store .entry))) place .reference ⌝ }
+{
     let mut bytes = [0u8; 20];
     fetch(store, place, &mut bytes);
     let (head, rest) = match split(&bytes) {
         Some(pair) => pair,
-        None => return NodeHead {
-            head: fields(0),
-            reference: Span { start: 0, size: 0 },
-        },
+        None => return NodeHead { head: fields(0), reference: Span { start: 0, size: 0 } },
     };
-    let (start, size) = match head.base {
-        1 | 2 => reference(rest, head.stp, head.cb).unwrap_or((0, 0)),
-        _ => (0, 0),
-    };
-    NodeHead {
-        head,
-        reference: Span { start, size },
+    NodeHead { head, reference: referred(rest, head) }
+}
+
+// The reference behind a node's head; zero where the node refers to nothing.
+fn referred(rest: &[u8], head: Head) -> Span
+    requires { ⌜ 16 ≤ length (now rest) ⌝ }
+    ensures { λ r. ⌜ r ≡ cond (refers (head .base)) (span-in (now (rest .entry)) 0 (head .stp) (head .cb)) (span 0 0) ⌝ }
+{
+    if head.base != 1 && head.base != 2 {
+        return Span { start: 0, size: 0 };
+    }
+    match reference(rest, head.stp, head.cb) {
+        Some((start, size)) => Span { start, size },
+        None => Span { start: 0, size: 0 },
     }
 }

@@ -3,3 +3,12 @@ pub mod Entries
 pub mod OneEntry
 pub mod Fragments
 pub mod Counted
+pub mod NodeSteps
+pub mod Queued
+pub mod Walkings
+pub mod RowSteps
+pub mod ListSteps
+pub mod ListWalks
+pub mod FirstSteps
+pub mod FirstNames
+pub mod Openings

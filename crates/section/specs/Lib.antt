@@ -2,3 +2,10 @@ pub mod Refusals
 pub mod Places
 pub mod Logs
 pub mod LogSteps
+pub mod Walks
+pub mod Queues
+pub mod Parts
+pub mod Rows
+pub mod Checked
+pub mod Listings
+pub mod Opening

@@ -1,8 +1,11 @@
 //! One node of a list fragment after the other.
 ghost use mathlib.Core.Path.{_≡_};
 ghost use Prim.Native.Nat.{_+_, _-_, _^_, _≤_, _<_};
-ghost use mathlib.Core.Bool.{false};
-ghost use Rattle.std.specs.Options.{Cases};
+ghost use mathlib.Core.Bool.{true, false, cond};
+ghost use Rattle.model.specs.Nodes.{refers};
+ghost use Rattle.model.specs.References.{start-width, size-width};
+ghost use Rattle.model.specs.ListFragments.{nodes-from, nodes-to};
+ghost use Rattle.section.specs.Walks.{Before, bad-head};
 use format::nodes::Head;
 use format::nodes::NodeHead;
 use format::nodes::node_at;
@@ -16,7 +19,7 @@ const TERMINATOR: u32 = 0xFF;
 // The node at `place`, or nothing where the fragment's nodes end: under 4 bytes are left before `stop`, or a terminator stands there.
 pub(crate) fn node_before<S: Store>(store: &S, place: u64, stop: u64) -> Option<NodeHead>
     requires { ⌜ place ≤ 2 ^ 40 ⌝ }
-    ensures { λ r. ⌜ Cases r (Unit {0}) (λ _. place + 4 ≤ stop) ⌝ }
+    ensures { λ r. ⌜ Before (S·Store .bytes (now (store .entry))) place stop r ⌝ }
 {
     if stop < place + 4 {
         return None;
@@ -31,7 +34,7 @@ pub(crate) fn node_before<S: Store>(store: &S, place: u64, stop: u64) -> Option<
 // Whether no node begins at `place` with this head: ID 0, the top bit clear, BaseType over 2, a size too small for its parts, or an end past `stop`.
 pub(crate) fn is_bad(head: &Head, place: u64, stop: u64) -> bool
     requires { ⌜ place ≤ 2 ^ 40 ⌝ }
-    ensures { λ r. ⌜ (r ≡ false → (place + now (head .entry) .size ≤ stop) × (4 ≤ now (head .entry) .size)) ⌝ }
+    ensures { λ r. ⌜ r ≡ bad-head (now (head .entry)) stop place ⌝ }
 {
     head.id == 0
         || head.top == 0
@@ -42,18 +45,20 @@ pub(crate) fn is_bad(head: &Head, place: u64, stop: u64) -> bool
 
 // How many bytes the reference of a node with this head takes.
 fn reference_width(head: &Head) -> usize
-    ensures { λ r. ⌜ r ≤ 16 ⌝ }
+    ensures value { λ r. ⌜ r ≡ cond (refers (now (head .entry) .base)) (start-width (now (head .entry) .stp) + size-width (now (head .entry) .cb)) 0 ⌝ }
+    ensures bound { λ r. ⌜ r ≤ 16 ⌝ }
 {
-    match head.base {
-        1 | 2 => width(head.stp, head.cb),
-        _ => 0,
+    if head.base == 1 || head.base == 2 {
+        width(head.stp, head.cb)
+    } else {
+        0
     }
 }
 
 // Where a fragment's nodes begin.
 pub(crate) fn nodes_from(fragment: Span) -> u64
     requires { ⌜ fragment .start + fragment .size ≤ 2 ^ 40 ⌝ }
-    ensures { λ r. ⌜ r ≡ fragment .start + 16 ⌝ }
+    ensures { λ r. ⌜ r ≡ nodes-from fragment ⌝ }
 {
     fragment.start + 16
 }
@@ -62,7 +67,7 @@ pub(crate) fn nodes_from(fragment: Span) -> u64
 pub(crate) fn nodes_to(fragment: Span) -> u64
     requires inside { ⌜ fragment .start + fragment .size ≤ 2 ^ 40 ⌝ }
     requires least { ⌜ 36 ≤ fragment .size ⌝ }
-    ensures { λ r. ⌜ r ≡ (fragment .start + fragment .size) - 20 ⌝ }
+    ensures { λ r. ⌜ r ≡ nodes-to fragment ⌝ }
 {
     fragment.start + fragment.size - 20
 }

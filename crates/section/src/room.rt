@@ -1,10 +1,12 @@
 //! The room that opening works in: reserved at once, so that opening itself never wants memory.
 ghost use mathlib.Core.Path.{_≡_};
-ghost use mathlib.Core.List.{[]};
-ghost use Prim.Native.Nat.{_+_, _≤_};
+ghost use mathlib.Core.List.{[], _∷_, _++_};
+ghost use Prim.Native.Nat.{_+_, _≤_, _<_};
 ghost use Rattle.std.specs.Of.Vec.{vec-items, vec-len, vec-cap};
 ghost use Rattle.std.specs.Vec.{made};
 ghost use Rattle.section.specs.Places.{Alike, Admits};
+ghost use Rattle.section.specs.Queues.{Names};
+ghost use Rattle.section.specs.Rows.{row-taken};
 use crate::places::Misplaced;
 use crate::places::is_in_header;
 use crate::places::is_outside;
@@ -115,16 +117,23 @@ impl Room {
     }
 
     // Names a list behind all that were named before it.
-    pub(crate) fn name(&mut self, field: u64, span: Span) {
+    pub(crate) fn name(&mut self, field: u64, span: Span)
+        ensures queue { λ _. ⌜ Names (vec-items (now (self .entry) .queue)) ((field, span) ∷ []) (vec-items (now (self .exit) .queue)) ⌝ }
+        ensures counts { λ _. ⌜ now (self .exit) .counts ≡ now (self .entry) .counts ⌝ }
+        ensures fragments { λ _. ⌜ now (self .exit) .fragments ≡ now (self .entry) .fragments ⌝ }
+        ensures lists { λ _. ⌜ now (self .exit) .lists ≡ now (self .entry) .lists ⌝ }
+    {
         if self.queue.len() < MOST_NAMED {
             self.queue.push_reserved(Named { field, span });
         }
     }
 
     // Whether a list with this ID was read.
-    pub(crate) fn has_list(&self, id: u32) -> bool {
-        for row in &self.lists {
-            if row.id == id {
+    pub(crate) fn has_list(&self, id: u32) -> bool
+        ensures { λ r. ⌜ r ≡ row-taken id (vec-items (now (self .entry) .lists)) ⌝ }
+    {
+        for i in 0..self.lists.len() {
+            if self.lists[i].id == id {
                 return true;
             }
         }
@@ -132,9 +141,13 @@ impl Room {
     }
 
     // One list more; the caller has seen that there is room.
-    pub(crate) fn add_list(&mut self, row: Row) {
-        if self.lists.len() < MOST_LISTS {
-            self.lists.push_reserved(row);
-        }
+    pub(crate) fn add_list(&mut self, row: Row)
+        requires { ⌜ vec-len (now self .lists) < 1024 ⌝ }
+        ensures lists { λ _. ⌜ vec-items (now (self .exit) .lists) ≡ vec-items (now (self .entry) .lists) ++ (row ∷ []) ⌝ }
+        ensures counts { λ _. ⌜ now (self .exit) .counts ≡ now (self .entry) .counts ⌝ }
+        ensures fragments { λ _. ⌜ now (self .exit) .fragments ≡ now (self .entry) .fragments ⌝ }
+        ensures queue { λ _. ⌜ now (self .exit) .queue ≡ now (self .entry) .queue ⌝ }
+    {
+        self.lists.push_reserved(row);
     }
 }
