@@ -67,9 +67,15 @@ pub fn node_at<S: Store>(store: &S, place: u64) -> NodeHead
     fetch(store, place, &mut bytes);
     let (head, rest) = match split(&bytes) {
         Some(pair) => pair,
-        None => return NodeHead { head: fields(0), reference: Span { start: 0, size: 0 } },
+        None => return NodeHead {
+            head: fields(0),
+            reference: Span { start: 0, size: 0 },
+        },
     };
-    NodeHead { head, reference: referred(rest, head) }
+    NodeHead {
+        head,
+        reference: referred(rest, head),
+    }
 }
 
 // The reference behind a node's head; zero where the node refers to nothing.

@@ -45,17 +45,17 @@ first-refused b end cs before rows ls q e s t =
     let none = append-nil before in
     elim (cases-lt (length before) 2048) [
       | inl lt ↦
-        let m : 2048 - length before ≡ suc (2048 - length before - 1) = omega arith in
-        ap (λ k. list-from k b end (noted cs id) ls before id (q .field) (q .span) [] []) m ∙ rw (none, same) (grind (arith, tells))
+          let m : 2048 - length before ≡ suc (2048 - length before - 1) = omega arith in
+          ap (λ k. list-from k b end (noted cs id) ls before id (q .field) (q .span) [] []) m ∙ rw (none, same) (grind (arith, tells))
       | inr ge ↦
-        let m : 2048 - length before ≡ 0 = omega arith in
-        ap (λ k. list-from k b end (noted cs id) ls before id (q .field) (q .span) [] []) m ∙ grind (arith, tells)
+          let m : 2048 - length before ≡ 0 = omega arith in
+          ap (λ k. list-from k b end (noted cs id) ls before id (q .field) (q .span) [] []) m ∙ grind (arith, tells)
     ]
 
 pub first-passes : (b : List ℕ) (end : ℕ) (cs : List Change) (before : List Span) (rows : List Row) (ls : List NodeList) (q : Named)
     → SameIds ls rows → told-by (begin-checks b end before rows cs q) ≡ None
     → list-from (2048 - length before) b end (noted cs (owner b (q .span))) ls before (owner b (q .span)) (q .field) (q .span) [] []
-      ≡ rest-of b end (noted cs (owner b (q .span))) before (owner b (q .span)) ls (q .span) [] []
+    ≡ rest-of b end (noted cs (owner b (q .span))) before (owner b (q .span)) ls (q .span) [] []
 unfolding list-from rest-of
 first-passes b end cs before rows ls q s t =
     let id = owner b (q .span) in
@@ -74,7 +74,7 @@ begun-told b end before rows there cs now q id e i r n p l f =
     let o = owner b (q .span) in
     let l′ : told-by (label-checks b (q .span) (owner b (q .span)) 0 0) ≡ None = ap (λ k. told-by (label-checks b (q .span) k 0 0)) (sym i) ∙ l in
     let f′ : told-by (first-checks rows (noted cs (owner b (q .span))) (owner b (q .span)) (q .span)) ≡ Some e
-        = ap (λ k. told-by (first-checks rows (noted cs k) k (q .span))) (sym i) ∙ ap₂ (λ rs ns. told-by (first-checks rs (noted ns id) id (q .span))) (sym r) (sym n) ∙ f in
+    = ap (λ k. told-by (first-checks rows (noted cs k) k (q .span))) (sym i) ∙ ap₂ (λ rs ns. told-by (first-checks rs (noted ns id) id (q .span))) (sym r) (sym n) ∙ f in
     told-on (place-checks end before (q .field) (q .span) 0) (label-checks b (q .span) o 0 0 ++ first-checks rows (noted cs o) o (q .span)) p
     ∙ told-on (label-checks b (q .span) o 0 0) (first-checks rows (noted cs o) o (q .span)) l′ ∙ f′
 

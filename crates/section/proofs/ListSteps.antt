@@ -65,7 +65,7 @@ rest-done b end count before id ls f fs ns ms q h = rw h
 pub rest-next : (b : List ℕ) (end count : ℕ) (before : List Span) (id : ℕ) (ls : List NodeList) (f : Span) (fs : List Span) (ns ms : List Node)
     → nodes-at (count - length ns) b id (nodes-to f) (nodes-from f) ns ≡ done (uncounted ms)
     → rest-of b end count before id ls f fs ns
-      ≡ list-from (2048 - (length before + (length fs + 1))) b end count ls before id (nodes-to f) (span-at b (nodes-to f)) (fs ++ (f ∷ [])) ms
+    ≡ list-from (2048 - (length before + (length fs + 1))) b end count ls before id (nodes-to f) (span-at b (nodes-to f)) (fs ++ (f ∷ [])) ms
 unfolding rest-of
 rest-next b end count before id ls f fs ns ms h = rw h
 
@@ -78,13 +78,13 @@ later-refused n b end count ls before id field g gs ns e l h t =
     let z : eqb (length gs) 0 ≡ false = grind (arith, tells) in
     elim (cases-lt (length (before ++ gs)) 2048) [
       | inl lt ↦
-        let m : n ≡ suc (n - 1) = omega arith in
-        let v : leb 2048 (length (before ++ gs)) ≡ false = grind (arith, tells) in
-        ap (λ k. list-from k b end count ls before id field g gs ns) m ∙ rw z (grind (arith, tells))
+          let m : n ≡ suc (n - 1) = omega arith in
+          let v : leb 2048 (length (before ++ gs)) ≡ false = grind (arith, tells) in
+          ap (λ k. list-from k b end count ls before id field g gs ns) m ∙ rw z (grind (arith, tells))
       | inr ge ↦
-        let m : n ≡ 0 = omega arith in
-        let v : leb 2048 (length (before ++ gs)) ≡ true = grind (arith, tells) in
-        ap (λ k. list-from k b end count ls before id field g gs ns) m ∙ rw z (grind (arith, tells))
+          let m : n ≡ 0 = omega arith in
+          let v : leb 2048 (length (before ++ gs)) ≡ true = grind (arith, tells) in
+          ap (λ k. list-from k b end count ls before id field g gs ns) m ∙ rw z (grind (arith, tells))
     ]
 
 pub later-passes : (n : ℕ) (b : List ℕ) (end count : ℕ) (ls : List NodeList) (before : List Span) (id field : ℕ) (g : Span) (gs : List Span) (ns : List Node)

@@ -67,7 +67,7 @@ part-whole b count id f k m free ns ms e l h =
 goes-on : (b : List ℕ) (end : ℕ) (before : List Span) (x : Begun) (f : Span) (n k m free : ℕ) (all : List Span) (was is after : List Named)
     (i : Listing b end before x f n k all was is) (p : Walked b (x .count - k) (x .list) f m free is after) → k + m < x .count → (ls : List NodeList)
     → rest-of b end (x .count) before (x .list) ls (x .fragment) [] []
-      ≡ list-from (2048 - (length before + n)) b end (x .count) ls before (x .list) (nodes-to f) (span-at b (nodes-to f)) (i .fs ++ (f ∷ [])) (i .nodes ++ p .nodes)
+    ≡ list-from (2048 - (length before + n)) b end (x .count) ls before (x .list) (nodes-to f) (span-at b (nodes-to f)) (i .fs ++ (f ∷ [])) (i .nodes ++ p .nodes)
 goes-on b end before x f n k m free all was is after i p l ls =
     i .goes ls
     ∙ rest-next b end (x .count) before (x .list) ls f (i .fs) (i .nodes) (i .nodes ++ p .nodes) (part-over b (x .count) (x .list) f k m free (i .nodes) (p .nodes) (i .number) l (p .gives (i .nodes)))
@@ -100,7 +100,7 @@ listing-more b end before x f n k m free all was is after g more i p l e t h =
       goes = λ ls.
           goes-on b end before x f n k m free all was is after i p l ls
           ∙ later-passes (2048 - (length before + n)) b end (x .count) ls before (x .list) (nodes-to f) (span-at b (nodes-to f)) gs (i .nodes ++ p .nodes)
-            (omega arith) (fuel before gs n s) (sym (checks-at b end (x .list) f n all before gs (i .held) s) ∙ t)
+          (omega arith) (fuel before gs n s) (sym (checks-at b end (x .list) f n all before gs (i .held) s) ∙ t)
           ∙ ap (λ y. rest-of b end (x .count) before (x .list) ls y gs (i .nodes ++ p .nodes)) (sym e);
     }
 
@@ -119,7 +119,7 @@ listing-whole b end before x f n k m free all was is after rows there more row i
       gives = λ ls.
           i .goes ls
           ∙ rest-done b end (x .count) before (x .list) ls f (i .fs) (i .nodes) (i .nodes ++ p .nodes) free
-            (part-whole b (x .count) (x .list) f k m free (i .nodes) (p .nodes) (i .number) l (p .gives (i .nodes)));
+          (part-whole b (x .count) (x .list) f k m free (i .nodes) (p .nodes) (i .number) l (p .gives (i .nodes)));
     }
 
 pub listing-bad : (b : List ℕ) (end : ℕ) (before : List Span) (x : Begun) (f : Span) (n k : ℕ) (all : List Span) (was is : List Named) (e : Fault)
@@ -136,7 +136,7 @@ listing-refused b end before x f n k m free all was is after e i p l t ls =
     let s : n ≡ length (i .fs ++ (f ∷ [])) = long (i .fs) f n (i .sequence) in
     goes-on b end before x f n k m free all was is after i p l ls
     ∙ later-refused (2048 - (length before + n)) b end (x .count) ls before (x .list) (nodes-to f) (span-at b (nodes-to f)) gs (i .nodes ++ p .nodes) e
-      (omega (arith, i .sequence)) (fuel before gs n s) (sym (checks-at b end (x .list) f n all before gs (i .held) s) ∙ t)
+    (omega (arith, i .sequence)) (fuel before gs n s) (sym (checks-at b end (x .list) f n all before gs (i .held) s) ∙ t)
 
 -- the same with other terms for the fragments and the queue
 pub listing-at : (b : List ℕ) (end : ℕ) (before : List Span) (x : Begun) (f : Span) (n k : ℕ) (all there : List Span) (was is : List Named)

@@ -59,7 +59,7 @@ name-at : (queue : List Named) (names : List (ℕ × Span)) (n : ℕ) (q : Named
 name-at queue names n q h l m e =
     let k : n < length names = omega (arith, ap length h, length-map queue pair-of, length-take 1025 names) in
     let at : getD names n (pair-of q) ≡ pair-of q
-        = sym (getD-take 1025 names n (pair-of q) m) ∙ ap (λ xs. getD xs n (pair-of q)) (sym h) ∙ getD-map pair-of queue n q (pair-of q) l ∙ ap pair-of (sym e) in
+    = sym (getD-take 1025 names n (pair-of q) m) ∙ ap (λ xs. getD xs n (pair-of q)) (sym h) ∙ getD-map pair-of queue n q (pair-of q) l ∙ ap pair-of (sym e) in
     drop-cons names n (pair-of q) k ∙ ap (λ x. x ∷ drop (suc n) names) at ∙ rw add-one refl
 
 names-end : (queue : List Named) (names : List (ℕ × Span)) (n : ℕ) → Held queue names → length queue ≤ n → n < 1025 → drop n names ≡ []
@@ -120,7 +120,7 @@ opening-more b h log cs n rows after all more queue is q o c l e x =
     let m : n < 1024 = omega (arith, x .few) in
     let d : drop n (o .names) ≡ pair-of q ∷ drop (n + 1) (o .names) = name-at queue (o .names) n q (o .held) l (omega arith) e in
     let named : named-list b h log (o .lists) (pair-of q) (owner b (q .span)) ≡ done (x .list)
-        = sym (list-named b h log cs all rows (o .lists) q (x .few) c (o .fragments)) ∙ x .gives (o .lists) (opening-ids b h log n rows all queue o) in
+    = sym (list-named b h log cs all rows (o .lists) q (x .few) c (o .fragments)) ∙ x .gives (o .lists) (opening-ids b h log n rows all queue o) in
     let long : n + 1 ≤ length (o .names) = omega (arith, ap length (o .held), length-map queue pair-of, length-take 1025 (o .names)) in
     let size : length all ≡ length (log .fragments) + length (list-fragments (o .lists)) = ap length (o .fragments) ∙ length-append (log .fragments) (list-fragments (o .lists)) in
     record {
@@ -146,7 +146,7 @@ opening-refused b h log cs n rows all queue q e o c l m g x =
     o .goes ∙ ap (λ xs. lists-from (1024 - n) b h log xs (o .lists)) d
     ∙ elim (cases-lt n 1024) [
       | inl lt ↦ lists-refused (1024 - n) (1024 - (n + 1)) b h log (pair-of q) (drop (n + 1) (o .names)) (o .lists) e (omega arith)
-        (sym (list-named b h log cs all rows (o .lists) q (omega arith) c (o .fragments)) ∙ here)
+          (sym (list-named b h log cs all rows (o .lists) q (omega arith) c (o .fragments)) ∙ here)
       | inr ge ↦ lists-full (1024 - n) b h log cs all rows q (drop (n + 1) (o .names)) (o .lists) e (omega arith) (omega arith) here
     ]
 

@@ -50,7 +50,7 @@ pub record Listing (b : List ℕ) (end : ℕ) (before : List Span) (x : Begun) (
   pub held : all ≡ before ++ (fs ++ (f ∷ []))
   pub names : Names was (names-of nodes) is
   pub goes : (ls : List NodeList)
-    → rest-of b end (x .count) before (x .list) ls (x .fragment) [] [] ≡ rest-of b end (x .count) before (x .list) ls f fs nodes
+      → rest-of b end (x .count) before (x .list) ls (x .fragment) [] [] ≡ rest-of b end (x .count) before (x .list) ls f fs nodes
 
 -- a list was read whole: it has one more row, its fragments stand behind those before, and what it names behind all names
 pub record Rested (b : List ℕ) (end : ℕ) (before : List Span) (x : Begun) (rows after : List Row) (all : List Span) (was is : List Named) : Type 0 where

@@ -31,7 +31,7 @@ pub record Walked (b : List ℕ) (left list : ℕ) (f : Span) (k free : ℕ) (wa
   pub number : k ≡ length nodes
   pub names : Names was (names-of nodes) is
   pub gives : (ns : List Node) →
-    nodes-at left b list (nodes-to f) (nodes-from f) ns ≡ done (cond (eqb k left) (counted (ns ++ nodes) free) (uncounted (ns ++ nodes)))
+      nodes-at left b list (nodes-to f) (nodes-from f) ns ≡ done (cond (eqb k left) (counted (ns ++ nodes) free) (uncounted (ns ++ nodes)))
 
 -- the answer to reading a fragment's nodes
 abbrev pub Walks : List ℕ → ℕ → ℕ → Span → List Named → List Named → Result Part InList → Type 0

@@ -6,10 +6,10 @@ use crate::node_walk::is_bad;
 use crate::node_walk::node_before;
 use crate::node_walk::nodes_from;
 use crate::node_walk::nodes_to;
-use crate::room::Room;
-use crate::room::Row;
 use crate::places::is_in_header;
 use crate::places::passes;
+use crate::room::Room;
+use crate::room::Row;
 use format::references::is_absent;
 use model::types::Span;
 use store::base::Store;
@@ -74,10 +74,16 @@ fn check_nodes<S: Store>(
 
 fn check_reference(end: u64, room: &Room, list: u32, field: u64, span: Span) -> Result<(), InList> {
     if passes(end, span) {
-        return Err(InList { fault: ListFault::Outside { place: field }, list });
+        return Err(InList {
+            fault: ListFault::Outside { place: field },
+            list,
+        });
     }
     if is_in_header(span) || room.ranges.meets(span) {
-        return Err(InList { fault: ListFault::Overlap { place: field }, list });
+        return Err(InList {
+            fault: ListFault::Overlap { place: field },
+            list,
+        });
     }
     Ok(())
 }

@@ -88,10 +88,30 @@ impl HeaderFault {
         ensures { λ r. ⌜ r ≡ header-told (now (self .entry)) ⌝ }
     {
         match *self {
-            HeaderFault::Short { place } => Fault { number: 1, layer: 1, place, list: 0 },
-            HeaderFault::Strange { place } => Fault { number: 2, layer: 1, place, list: 0 },
-            HeaderFault::Newer => Fault { number: 3, layer: 1, place: 0x4C, list: 0 },
-            HeaderFault::Bare => Fault { number: 4, layer: 1, place: 0x60, list: 0 },
+            HeaderFault::Short { place } => Fault {
+                number: 1,
+                layer: 1,
+                place,
+                list: 0,
+            },
+            HeaderFault::Strange { place } => Fault {
+                number: 2,
+                layer: 1,
+                place,
+                list: 0,
+            },
+            HeaderFault::Newer => Fault {
+                number: 3,
+                layer: 1,
+                place: 0x4C,
+                list: 0,
+            },
+            HeaderFault::Bare => Fault {
+                number: 4,
+                layer: 1,
+                place: 0x60,
+                list: 0,
+            },
         }
     }
 }
@@ -109,7 +129,12 @@ impl LogFault {
             LogFault::Full { place } => (13, place),
             LogFault::Room { place } => (100, place),
         };
-        Fault { number, layer: 2, place, list: 0 }
+        Fault {
+            number,
+            layer: 2,
+            place,
+            list: 0,
+        }
     }
 }
 
@@ -127,7 +152,12 @@ impl InList {
             ListFault::Twice { place } => (12, place),
             ListFault::Full { place } => (13, place),
         };
-        Fault { number, layer: 3, place, list: self.list }
+        Fault {
+            number,
+            layer: 3,
+            place,
+            list: self.list,
+        }
     }
 }
 
@@ -140,7 +170,12 @@ impl OpenFault {
             OpenFault::Header(f) => f.told(),
             OpenFault::Log(f) => f.told(),
             OpenFault::List(f) => f.told(),
-            OpenFault::Busy => Fault { number: 14, layer: 4, place: 0, list: 0 },
+            OpenFault::Busy => Fault {
+                number: 14,
+                layer: 4,
+                place: 0,
+                list: 0,
+            },
         }
     }
 }

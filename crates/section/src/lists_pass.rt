@@ -26,16 +26,16 @@ use crate::node_walk::is_bad;
 use crate::node_walk::node_before;
 use crate::node_walk::nodes_from;
 use crate::node_walk::nodes_to;
+use crate::places::Misplaced;
+use crate::places::is_outside;
 use crate::room::MOST_FRAGMENTS;
 use crate::room::MOST_LISTS;
-use crate::places::Misplaced;
 use crate::room::Named;
 use crate::room::Room;
 use crate::room::Row;
-use crate::places::is_outside;
-use format::nodes::NodeHead;
 use format::fetching::u32_at;
 use format::fetching::u64_at;
+use format::nodes::NodeHead;
 use format::references::is_absent;
 use format::references::span_at;
 use model::types::Header;
@@ -47,10 +47,12 @@ const LEAST: u64 = 36;
 
 // Where the header refers to the root list and to the hashed chunk list.
 const ROOT_FIELD: u64 = 0xAC;
+
 const HASHED_FIELD: u64 = 0x94;
 
 // The marks before and behind a fragment.
 const FIRST_MARK: u64 = 0xA456_7AB1_F5F7_F4C4;
+
 const LAST_MARK: u64 = 0x8BC2_15C3_8233_BA4B;
 
 // List IDs begin here.
@@ -73,7 +75,11 @@ struct Begun {
 }
 
 // Reads all lists: those that the header names, and then those that are met.
-pub(crate) fn read_lists<S: Store>(store: &S, header: &Header, room: &mut Room) -> Result<(), InList>
+pub(crate) fn read_lists<S: Store>(
+    store: &S,
+    header: &Header,
+    room: &mut Room,
+) -> Result<(), InList>
     requires { ⌜ now header .end ≤ 2 ^ 40 ⌝ }
     ensures answer { λ r. ⌜ ((log : Log) → Holds log (vec-items (now (room .entry) .counts .changes)) (vec-items (now (room .entry) .fragments)) (vec-items (now (room .entry) .lists)) → vec-items (now (room .entry) .queue) ≡ [] → ReadsAll (S·Store .bytes (now (store .entry))) (now (header .entry)) log (vec-items (now (room .exit) .lists)) (vec-items (now (room .exit) .fragments)) r) ⌝ }
     ensures counts { λ _. ⌜ now (room .exit) .counts ≡ now (room .entry) .counts ⌝ }
@@ -119,7 +125,10 @@ fn read_list<S: Store>(store: &S, end: u64, room: &mut Room, named: Named) -> Re
     ensures counts { λ _. ⌜ now (room .exit) .counts ≡ now (room .entry) .counts ⌝ }
 {
     if room.lists.len() >= MOST_LISTS {
-        return Err(InList { fault: too_many(end, named), list: 0 });
+        return Err(InList {
+            fault: too_many(end, named),
+            list: 0,
+        });
     }
     let begun = begin_list(store, end, room, named)?;
     read_rest(store, end, room, begun)
@@ -140,7 +149,12 @@ fn begin_list<S: Store>(store: &S, end: u64, room: &mut Room, named: Named) -> R
     let list = owner(store, named.span);
     check_fragment(store, named.span, list, 0, 0)?;
     let count = check_first(room, list, named.span)?;
-    Ok(Begun { list, count, first, fragment: named.span })
+    Ok(Begun {
+        list,
+        count,
+        first,
+        fragment: named.span,
+    })
 }
 
 // Reads a list's nodes, fragment by fragment, and adds its row.
@@ -161,7 +175,13 @@ fn read_rest<S: Store>(store: &S, end: u64, room: &mut Room, begun: Begun) -> Re
         let part = read_nodes(store, begun.list, fragment, begun.count - nodes, room)?;
         nodes += part.nodes;
         if nodes == begun.count {
-            room.add_list(Row { id: begun.list, first: begun.first, fragments: sequence as usize, nodes, free: part.free });
+            room.add_list(Row {
+                id: begun.list,
+                first: begun.first,
+                fragments: sequence as usize,
+                nodes,
+                free: part.free,
+            });
             return Ok(());
         }
         fragment = next_fragment(store, end, room, fragment, begun.list, sequence)?;
@@ -233,13 +253,24 @@ fn owner<S: Store>(store: &S, fragment: Span) -> u32
 }
 
 // Checks a fragment's marks, its list's ID and its number in the list; the list is told once the first fragment has passed.
-fn check_fragment<S: Store>(store: &S, fragment: Span, list: u32, sequence: u32, told: u32) -> Result<(), InList>
+fn check_fragment<S: Store>(
+    store: &S,
+    fragment: Span,
+    list: u32,
+    sequence: u32,
+    told: u32,
+) -> Result<(), InList>
     requires inside { ⌜ fragment .start + fragment .size ≤ 2 ^ 40 ⌝ }
     requires least { ⌜ 36 ≤ fragment .size ⌝ }
     ensures { λ r. ⌜ Checked (label-checks (S·Store .bytes (now (store .entry))) fragment list sequence told) r ⌝ }
 {
     if is_mislabelled(store, fragment, list, sequence) {
-        return Err(InList { fault: ListFault::Fragment { place: fragment.start }, list: told });
+        return Err(InList {
+            fault: ListFault::Fragment {
+                place: fragment.start,
+            },
+            list: told,
+        });
     }
     Ok(())
 }
@@ -265,17 +296,29 @@ fn check_first(room: &Room, list: u32, fragment: Span) -> Result<u32, InList>
 {
     let place = fragment.start;
     if room.has_list(list) {
-        return Err(InList { fault: ListFault::Twice { place }, list });
+        return Err(InList {
+            fault: ListFault::Twice { place },
+            list,
+        });
     }
     let count = room.counts.latest(list);
     if count == 0 {
-        return Err(InList { fault: ListFault::Unlisted { place }, list });
+        return Err(InList {
+            fault: ListFault::Unlisted { place },
+            list,
+        });
     }
     Ok(count)
 }
 
 // Reads a fragment's nodes, at most `left`, and names the lists that they refer to.
-fn read_nodes<S: Store>(store: &S, list: u32, fragment: Span, left: u32, room: &mut Room) -> Result<Part, InList>
+fn read_nodes<S: Store>(
+    store: &S,
+    list: u32,
+    fragment: Span,
+    left: u32,
+    room: &mut Room,
+) -> Result<Part, InList>
     requires inside { ⌜ fragment .start + fragment .size ≤ 2 ^ 40 ⌝ }
     requires least { ⌜ 36 ≤ fragment .size ⌝ }
     ensures answer { λ r. ⌜ Walks (S·Store .bytes (now (store .entry))) left list fragment (vec-items (now (room .entry) .queue)) (vec-items (now (room .exit) .queue)) r ⌝ }
@@ -291,12 +334,18 @@ fn read_nodes<S: Store>(store: &S, list: u32, fragment: Span, left: u32, room: &
             return Ok(Part { nodes, free: place });
         };
         if is_bad(&node.head, place, stop) {
-            return Err(InList { fault: ListFault::Node { place }, list });
+            return Err(InList {
+                fault: ListFault::Node { place },
+                list,
+            });
         }
         name_list(room, place, node);
         place += node.head.size as u64;
     }
-    Ok(Part { nodes: left, free: place })
+    Ok(Part {
+        nodes: left,
+        free: place,
+    })
 }
 
 // Names the list that the node at `place` refers to, if it does.

@@ -25,7 +25,7 @@ read-rest-requires g c κs =
         ap length h,
         length-append (vec-items (c .args .room .now .fragments)) (c .args .named .span ∷ []),
         c .args .room .now .fragments .ok .0,
-        c .begin-list .last .room .fragments .ok .0
+        c .begin-list .last .room .fragments .ok .0,
       );
       room = omega (arith, ap vec-len (c .begin-list .ensures .lists));
       held = held-first _ _ _ _ _ h (b .fragment) n;

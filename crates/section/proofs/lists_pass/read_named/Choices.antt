@@ -15,5 +15,5 @@ Inv-loop-next g l =
     (l .room .counts ≡ l .entry .room .counts)
     × (length (vec-items (l .room .lists)) ≤ 1024 ⊎ (l .next ≡ 0))
     × ((log : Log) → Holds log (vec-items (l .entry .room .counts .changes)) (vec-items (l .entry .room .fragments)) (vec-items (l .entry .room .lists))
-       → Held (vec-items (l .entry .room .queue)) (named-first (l .header))
-       → Opening (g .S·Store .bytes (l .store)) (l .header) log (l .next) (vec-items (l .room .lists)) (vec-items (l .room .fragments)) (vec-items (l .room .queue)))
+    → Held (vec-items (l .entry .room .queue)) (named-first (l .header))
+    → Opening (g .S·Store .bytes (l .store)) (l .header) log (l .next) (vec-items (l .room .lists)) (vec-items (l .room .fragments)) (vec-items (l .room .queue)))

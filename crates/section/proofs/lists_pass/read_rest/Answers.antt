@@ -64,14 +64,14 @@ loop-sequence-again g c =
         length-append (vec-items (c .read-nodes .last .room .fragments)) (c .in-Continue-fragment .fragment ∷ []),
         c .read-nodes .last .room .fragments .ok .0,
         c .next-fragment .last .room .fragments .ok .0,
-        next .3
+        next .3,
       ),
       n .counts ∙ r .counts ∙ i .4,
       n .lists ∙ r .lists ∙ i .5,
       listing-more _ _ _ (c .args .begun) (c .loop-sequence .fragment) _ _ _ _ _ _ _ _ (c .in-Continue-fragment .fragment) _
-      (listing-at _ _ _ (c .args .begun) (c .loop-sequence .fragment) _ _ _ _ _ _ (ap vec-items (r .fragments)) (i .6))
-      (walked-at _ _ _ (c .loop-sequence .fragment) _ _ _ _ _ (ap vec-items (n .queue)) (c .in-Continue-part .ensures tt .answer))
-      l (next .0) (c .in-Continue-fragment .ensures tt .answer) (next .4),
+          (listing-at _ _ _ (c .args .begun) (c .loop-sequence .fragment) _ _ _ _ _ _ (ap vec-items (r .fragments)) (i .6))
+          (walked-at _ _ _ (c .loop-sequence .fragment) _ _ _ _ _ (ap vec-items (n .queue)) (c .in-Continue-part .ensures tt .answer))
+          l (next .0) (c .in-Continue-fragment .ensures tt .answer) (next .4),
     )
 
 pub returns : need.returns

@@ -15,4 +15,4 @@ Inv-loop-sequence g l =
     × (l .room .counts ≡ l .entry .room .counts)
     × (l .room .lists ≡ l .entry .room .lists)
     × Listing (g .S·Store .bytes (l .store)) (l .end) (take (l .begun .first) (vec-items (l .entry .room .fragments))) (l .begun) (l .fragment) (l .sequence) (l .nodes)
-        (vec-items (l .room .fragments)) (vec-items (l .entry .room .queue)) (vec-items (l .room .queue))
+    (vec-items (l .room .fragments)) (vec-items (l .entry .room .queue)) (vec-items (l .room .queue))
