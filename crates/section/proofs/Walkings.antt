@@ -34,7 +34,7 @@ pub names-of-none : names-of [] ≡ []
 unfolding referring
 names-of-none = refl
 
-referring-both : (base : ℕ) (ns ms : List Node) → referring base (ns ++ ms) ≡ referring base ns ++ referring base ms
+pub referring-both : (base : ℕ) (ns ms : List Node) → referring base (ns ++ ms) ≡ referring base ns ++ referring base ms
 unfolding referring
 referring-both base [] ms = refl
 referring-both base (n ∷ ns) ms = let ih = referring-both base ns ms in grind arith
