@@ -1,7 +1,7 @@
 -- The walk over a fragment's nodes for their data, step by step.
-use Prim.Native.Nat.{ℕ, zero, suc, _+_, _-_, _≤_, _<_}
+use Prim.Native.Nat.{ℕ, zero, suc, _+_, _-_, _<_}
 use mathlib.Core.Path.{_≡_, refl, sym, ap, ap₂, _∙_}
-use mathlib.Core.Bool.{Bool, true, false, cond, _&&_}
+use mathlib.Core.Bool.{true, false, _&&_}
 use mathlib.Core.List.{List, [], _∷_, _++_, append-assoc, append-nil}
 use mathlib.Core.Logic.{inl, inr}
 use lib.Dec.{eqb, ltb}
@@ -10,7 +10,6 @@ use native.Mathlib.Omega.{arith}
 use Rattle.std.proofs.shelf.Lists.{length-append}
 use Rattle.std.proofs.shelf.Tests.{cases-bool}
 use Rattle.std.specs.Results.{ErrBy}
-use Rattle.std.specs.declared.option.Option.{Option}
 use Rattle.std.specs.declared.option.Option.the-variants.{Some, None}
 use Rattle.std.specs.declared.result.Result.{Result}
 use Rattle.std.specs.declared.result.Result.the-variants.{Ok, Err}
@@ -20,9 +19,8 @@ use Rattle.model.specs.Bytes.{le}
 use Rattle.model.specs.Faults.{fault, Outcome, done, refused}
 use Rattle.model.specs.References.{present, end-of}
 use Rattle.model.specs.Nodes.{Node, node-at, size-bits, field-of, hands-over, bad-node, referring}
-use Rattle.model.specs.ListFragments.{nodes-from, nodes-to}
 use Rattle.model.specs.OpenedLog.{overlaps}
-use Rattle.model.specs.OpenedLists.{NodePart, counted, uncounted, nodes-at}
+use Rattle.model.specs.OpenedLists.{NodePart, nodes-at}
 use Rattle.model.specs.Opened.{data-checks}
 use Rattle.format.specs.declared.nodes.Head.{Head}
 use Rattle.format.specs.Heads.{head-of}
@@ -30,7 +28,7 @@ use Rattle.section.specs.declared.faults.InList.{InList}
 use Rattle.section.specs.Refusals.{list-told}
 use Rattle.section.specs.Walks.{bad-head}
 use Rattle.section.specs.Checked.{told-by}
-use Rattle.section.specs.DataWalks.{reference-checks, node-checks, part-nodes, Scanned, Scans}
+use Rattle.section.specs.DataWalks.{node-checks, part-nodes, Scanned, Scans}
 use Rattle.section.proofs.NodeSteps.{bad-is, walk-over, walk-bad, walk-on, walk-end}
 use Rattle.section.proofs.ListSteps.{told-more, told-on}
 use Rattle.section.proofs.Walkings.{referring-both}

@@ -1,5 +1,5 @@
 use native.Mathlib.Omega.{arith}
-use mathlib.Core.Path.{_≡_, sym, ap₂, _∙_}
+use mathlib.Core.Path.{ap₂, _∙_}
 use mathlib.Core.List.{[]}
 use Rattle.model.specs.OpenedLists.{nodes-at}
 use Rattle.section.proofs.NodeSteps.{good-within}
