@@ -1,20 +1,17 @@
 -- A node's reference, read from the bytes behind its head.
 use Prim.Native.Nat.{ℕ, _+_, _*_, _≤_}
 use mathlib.Core.Path.{_≡_, sym, ap, ap₂, _∙_}
-use mathlib.Core.Bool.{true, false, cond}
+use mathlib.Core.Bool.{cond}
 use mathlib.Core.List.{List}
-use lib.Dec.{eqb}
 use lib.ListN.{length, drop, getD}
 use native.Mathlib.Nat.{add-zero, zero-add, add-assoc}
 use native.Mathlib.Omega.{arith}
 use Rattle.std.proofs.shelf.Lists.{length-drop, getD-drop}
 use Rattle.std.proofs.shelf.Ways.{tells}
-use Rattle.std.specs.declared.option.Option.{Option}
 use Rattle.std.specs.declared.option.Option.the-variants.{Some, None}
-use Rattle.model.specs.declared.types.Span.{Span}
 use Rattle.model.specs.Bytes.{le}
 use Rattle.model.specs.References.{span, by-format, start-width, size-width, unit, span-in}
-use Rattle.model.specs.Nodes.{Node, refers, base-bits, stp-bits, cb-bits, node-at}
+use Rattle.model.specs.Nodes.{refers, base-bits, stp-bits, cb-bits, node-at}
 use Rattle.format.specs.declared.nodes.Head.{Head}
 use Rattle.format.specs.Heads.{head-of}
 use Rattle.format.specs.Windows.{Window}

@@ -1,9 +1,7 @@
 -- The lists that the header names.
-use Prim.Native.Nat.{ℕ}
-use mathlib.Core.Path.{_≡_, sym, ap, _∙_}
-use mathlib.Core.Bool.{true, false, cond}
-use mathlib.Core.List.{List, [], _∷_, _++_, map}
-use Rattle.model.specs.declared.types.Span.{Span}
+use mathlib.Core.Path.{_≡_, ap}
+use mathlib.Core.Bool.{true, false}
+use mathlib.Core.List.{List, [], _∷_, map}
 use Rattle.model.specs.declared.types.Header.{Header}
 use Rattle.model.specs.References.{absent}
 use Rattle.model.specs.OpenedLists.{named-first}

@@ -1,25 +1,24 @@
 -- The checks of a list's first fragment.
 use Prim.Native.Nat.{ℕ, suc, _+_, _-_, _≤_, _<_}
-use mathlib.Core.Path.{_≡_, refl, sym, ap, ap₂, _∙_}
-use mathlib.Core.Bool.{Bool, true, false, cond}
+use mathlib.Core.Path.{_≡_, sym, ap, ap₂, _∙_}
+use mathlib.Core.Bool.{true, false, cond}
 use mathlib.Core.List.{List, [], _∷_, _++_, map, append-nil}
 use mathlib.Core.Logic.{inl, inr}
-use lib.Dec.{eqb, ltb, leb}
+use lib.Dec.{ltb}
 use lib.ListN.{length}
 use native.Mathlib.Omega.{arith}
 use Rattle.std.proofs.shelf.Tests.{cases-lt}
 use Rattle.std.proofs.shelf.Ways.{tells}
 use Rattle.std.specs.Results.{ErrBy, Cases}
-use Rattle.std.specs.declared.option.Option.{Option}
 use Rattle.std.specs.declared.option.Option.the-variants.{Some, None}
 use Rattle.std.specs.declared.result.Result.{Result}
 use Rattle.std.specs.declared.result.Result.the-variants.{Ok, Err}
 use Rattle.model.specs.declared.types.Span.{Span}
 use Rattle.model.specs.declared.types.Fault.{Fault}
-use Rattle.model.specs.Faults.{Check, fault, Outcome, done, refused, unless}
+use Rattle.model.specs.Faults.{Check, fault, refused}
 use Rattle.model.specs.ListFragments.{owner}
 use Rattle.model.specs.Section.{NodeList}
-use Rattle.model.specs.OpenedLog.{outside, overlaps}
+use Rattle.model.specs.OpenedLog.{outside}
 use Rattle.model.specs.OpenedLists.{list-from, taken}
 use Rattle.counts.specs.declared.changes.Change.{Change}
 use Rattle.counts.specs.Noted.{noted}
@@ -31,9 +30,9 @@ use Rattle.section.specs.Refusals.{list-fault, list-told}
 use Rattle.section.specs.Rows.{row-of, row-taken, SameIds}
 use Rattle.section.specs.Checked.{told-by, Checked, place-checks, label-checks, first-checks, begin-checks}
 use Rattle.section.specs.declared.faults.ListFault.{ListFault}
-use Rattle.section.specs.Queues.{pair-of, Names}
+use Rattle.section.specs.Queues.{pair-of}
 use Rattle.section.proofs.ListSteps.{told-on}
-use Rattle.section.specs.Listings.{rest-of, list-of, Begins, Rested, Rests, Listed, Lists}
+use Rattle.section.specs.Listings.{rest-of, list-of, Begins, Rests, Lists}
 
 pub first-refused : (b : List ℕ) (end : ℕ) (cs : List Change) (before : List Span) (rows : List Row) (ls : List NodeList) (q : Named) (e : Fault)
     → SameIds ls rows → told-by (begin-checks b end before rows cs q) ≡ Some e

@@ -12,3 +12,4 @@ pub mod ListWalks
 pub mod FirstSteps
 pub mod FirstNames
 pub mod Openings
+pub mod DataSteps

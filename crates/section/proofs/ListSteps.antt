@@ -1,8 +1,8 @@
 -- One step of the walk over a list's fragments.
-use Prim.Native.Nat.{ℕ, suc, _+_, _-_, _≤_, _<_}
-use mathlib.Core.Path.{_≡_, refl, sym, ap, ap₂, _∙_}
-use mathlib.Core.Bool.{Bool, true, false, cond, _&&_}
-use mathlib.Core.List.{List, [], _∷_, _++_, append-nil}
+use Prim.Native.Nat.{ℕ, suc, _+_, _-_, _<_}
+use mathlib.Core.Path.{_≡_, refl, ap, _∙_}
+use mathlib.Core.Bool.{true, false}
+use mathlib.Core.List.{List, [], _∷_, _++_}
 use mathlib.Core.Logic.{inl, inr}
 use lib.Dec.{eqb, leb}
 use lib.ListN.{length}
@@ -10,19 +10,16 @@ use native.Mathlib.Omega.{arith}
 use Rattle.std.proofs.shelf.Lists.{length-append}
 use Rattle.std.proofs.shelf.Tests.{cases-lt, cases-bool}
 use Rattle.std.proofs.shelf.Ways.{tells}
-use Rattle.std.specs.declared.option.Option.{Option}
 use Rattle.std.specs.declared.option.Option.the-variants.{Some, None}
 use Rattle.model.specs.declared.types.Span.{Span}
 use Rattle.model.specs.declared.types.Fault.{Fault}
-use Rattle.model.specs.Faults.{fault, Outcome, done, refused, Check, unless, then}
+use Rattle.model.specs.Faults.{Outcome, done, refused, Check, unless}
 use Rattle.model.specs.References.{span-at}
 use Rattle.model.specs.Nodes.{Node}
 use Rattle.model.specs.ListFragments.{nodes-from, nodes-to}
 use Rattle.model.specs.Section.{NodeList}
-use Rattle.model.specs.OpenedLog.{outside, overlaps}
-use Rattle.model.specs.OpenedLists.{NodePart, counted, uncounted, nodes-at, list-from, taken}
-use Rattle.section.specs.declared.room.Row.{Row}
-use Rattle.section.specs.Checked.{told-by, place-checks, label-checks, mislabelled, first-checks}
+use Rattle.model.specs.OpenedLists.{counted, uncounted, nodes-at, list-from}
+use Rattle.section.specs.Checked.{told-by, place-checks, label-checks}
 use Rattle.section.specs.Listings.{rest-of}
 
 pub told-more : (cs ds : List Check) (f : Fault) → told-by cs ≡ Some f → told-by (cs ++ ds) ≡ Some f

@@ -1,8 +1,8 @@
 -- A list's fragments one after the other: what is left to read gives what the whole gives.
-use Prim.Native.Nat.{ℕ, suc, _+_, _-_, _≤_, _<_}
+use Prim.Native.Nat.{ℕ, _+_, _-_, _≤_, _<_}
 use mathlib.Core.Path.{_≡_, refl, sym, ap, ap₂, _∙_}
-use mathlib.Core.Bool.{Bool, true, false, cond}
-use mathlib.Core.List.{List, [], _∷_, _++_, map, append-assoc, append-nil}
+use mathlib.Core.Bool.{true, false, cond}
+use mathlib.Core.List.{List, [], _∷_, _++_, map, append-assoc}
 use lib.Dec.{eqb}
 use lib.ListN.{length, take}
 use lib.Seq.{take-append-seam}
@@ -10,25 +10,23 @@ use native.Mathlib.Omega.{arith}
 use Rattle.std.proofs.shelf.Lists.{length-append, length-take}
 use Rattle.std.proofs.shelf.Ways.{tells}
 use Rattle.std.specs.Results.{ErrBy}
-use Rattle.std.specs.declared.option.Option.{Option}
 use Rattle.std.specs.declared.option.Option.the-variants.{Some, None}
 use Rattle.std.specs.declared.result.Result.{Result}
 use Rattle.std.specs.declared.result.Result.the-variants.{Ok, Err}
 use Rattle.model.specs.declared.types.Span.{Span}
 use Rattle.model.specs.declared.types.Fault.{Fault}
-use Rattle.model.specs.Faults.{fault, Outcome, done, refused}
+use Rattle.model.specs.Faults.{done, refused}
 use Rattle.model.specs.References.{span-at}
-use Rattle.model.specs.Nodes.{Node, field-of, referring}
+use Rattle.model.specs.Nodes.{Node}
 use Rattle.model.specs.ListFragments.{nodes-from, nodes-to}
 use Rattle.model.specs.Section.{NodeList}
-use Rattle.model.specs.OpenedLists.{NodePart, counted, uncounted, nodes-at, list-from}
+use Rattle.model.specs.OpenedLists.{counted, uncounted, nodes-at, list-from}
 use Rattle.section.specs.declared.faults.InList.{InList}
 use Rattle.section.specs.declared.room.Row.{Row}
 use Rattle.section.specs.declared.room.Named.{Named}
 use Rattle.section.specs.declared.lists_pass.Begun.{Begun}
 use Rattle.section.specs.Refusals.{list-told}
-use Rattle.section.specs.Queues.{pair-of, Names, names-of}
-use Rattle.section.specs.Rows.{row-of}
+use Rattle.section.specs.Queues.{pair-of, names-of}
 use Rattle.section.specs.Parts.{Walked}
 use Rattle.section.specs.Checked.{told-by, next-checks}
 use Rattle.section.specs.Listings.{rest-of, Listing, Rested, Rests}

@@ -1,15 +1,14 @@
 -- One step of the walk over a fragment's nodes.
 use Prim.Native.Nat.{ℕ, suc, _+_, _-_, _≤_, _<_}
-use mathlib.Core.Path.{_≡_, refl, sym, ap, _∙_}
-use mathlib.Core.Bool.{Bool, true, false, cond}
+use mathlib.Core.Path.{_≡_, ap, _∙_}
+use mathlib.Core.Bool.{true, false}
 use mathlib.Core.List.{List, [], _∷_, _++_}
-use lib.Dec.{eqb}
 use native.Mathlib.Omega.{arith}
 use Rattle.std.proofs.shelf.Ways.{tells}
 use Rattle.model.specs.Bytes.{le}
-use Rattle.model.specs.Faults.{fault, Outcome, done, refused, unless}
+use Rattle.model.specs.Faults.{fault, done, refused}
 use Rattle.model.specs.Nodes.{Node, id-bits, size-bits, node-at, hands-over, bad-node}
-use Rattle.model.specs.OpenedLists.{NodePart, counted, uncounted, nodes-at}
+use Rattle.model.specs.OpenedLists.{counted, uncounted, nodes-at}
 use Rattle.format.specs.declared.nodes.Head.{Head}
 use Rattle.format.specs.Heads.{head-of}
 use Rattle.section.specs.Walks.{bad-head}
@@ -25,11 +24,6 @@ over-id v stop p h = grind (arith, tells)
 pub over-not : (v stop p : ℕ) → p + 4 ≤ stop → (id-bits v ≡ 0xFF → ⊥) → hands-over v stop p ≡ false
 unfolding hands-over
 over-not v stop p h d = grind (arith, tells)
-
--- where a fragment's nodes do not end, four bytes are left
-pub over-room : (v stop p : ℕ) → hands-over v stop p ≡ false → p + 4 ≤ stop
-unfolding hands-over
-over-room v stop p h = grind (arith, tells)
 
 pub bad-is : (h : Head) (v stop p : ℕ) → h ≡ head-of v → bad-head h stop p ≡ bad-node v stop p
 unfolding bad-node

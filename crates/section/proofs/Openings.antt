@@ -1,15 +1,15 @@
 -- One list after the other: what is left to read gives what the whole gives.
 use Prim.Native.Nat.{ℕ, zero, suc, _+_, _-_, _≤_, _<_}
 use mathlib.Core.Path.{_≡_, refl, sym, ap, ap₂, _∙_}
-use mathlib.Core.Bool.{Bool, true, false, cond, _||_}
-use mathlib.Core.List.{List, [], _∷_, _++_, map, append-assoc, append-nil}
+use mathlib.Core.Bool.{true, false, _||_}
+use mathlib.Core.List.{List, [], _∷_, _++_, append-assoc, append-nil}
 use mathlib.Core.Logic.{_⊎_, inl, inr}
 use lib.Dec.{eqb, ltb}
-use lib.ListN.{length, getD, take, drop}
+use lib.ListN.{length, getD, drop}
 use lib.Seq.{drop-cons}
 use native.Mathlib.Omega.{arith}
 use native.Mathlib.Numerals.{add-one}
-use native.Mathlib.Nat.{add-assoc, add-zero}
+use native.Mathlib.Nat.{add-zero}
 use Rattle.std.proofs.shelf.Lists.{length-append, length-map, length-take, getD-take, getD-map, drop-append-le, drop-all}
 use Rattle.std.proofs.shelf.Tests.{cases-lt}
 use Rattle.std.proofs.shelf.Ways.{tells}
@@ -19,10 +19,9 @@ use Rattle.std.specs.declared.result.Result.the-variants.{Ok, Err}
 use Rattle.model.specs.declared.types.Span.{Span}
 use Rattle.model.specs.declared.types.Fault.{Fault}
 use Rattle.model.specs.declared.types.Header.{Header}
-use Rattle.model.specs.Faults.{fault, Outcome, done, refused, unless, then}
+use Rattle.model.specs.Faults.{done, refused, then}
 use Rattle.model.specs.ListFragments.{owner}
 use Rattle.model.specs.Section.{Log, NodeList, count-in, list-fragments}
-use Rattle.model.specs.OpenedLog.{outside}
 use Rattle.model.specs.OpenedLists.{taken, list-from, named-by, named-first, named-list, lists-from}
 use Rattle.counts.specs.declared.changes.Change.{Change}
 use Rattle.counts.specs.Noted.{noted}
@@ -30,9 +29,9 @@ use Rattle.section.specs.declared.faults.InList.{InList}
 use Rattle.section.specs.declared.room.Row.{Row}
 use Rattle.section.specs.declared.room.Named.{Named}
 use Rattle.section.specs.Refusals.{list-told}
-use Rattle.section.specs.Queues.{pair-of, Held, Names}
+use Rattle.section.specs.Queues.{pair-of, Held}
 use Rattle.section.specs.Rows.{row-of, rows-of, row-taken, SameIds}
-use Rattle.section.specs.Listings.{list-of, Listed, Lists}
+use Rattle.section.specs.Listings.{list-of, Listed}
 use Rattle.section.specs.Opening.{Holds, Opening, AllRead, ReadsAll}
 
 rows-more : (at : ℕ) (ls : List NodeList) (l : NodeList) → rows-of at (ls ++ (l ∷ [])) ≡ rows-of at ls ++ (row-of (at + length (list-fragments ls)) l ∷ [])

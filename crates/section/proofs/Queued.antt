@@ -8,7 +8,7 @@ use native.Mathlib.Omega.{arith}
 use Rattle.std.proofs.shelf.Lists.{map-append, length-map, length-take, length-append, take-append-le, take-all}
 use Rattle.model.specs.declared.types.Span.{Span}
 use Rattle.section.specs.declared.room.Named.{Named}
-use Rattle.section.specs.Queues.{pair-of, Held, Names}
+use Rattle.section.specs.Queues.{pair-of, Names}
 
 pub name-added : (q after : List Named) (x : Named) → length q < 1025 → after ≡ q ++ (x ∷ []) → Names q (pair-of x ∷ []) after
 name-added q after x l e all h =

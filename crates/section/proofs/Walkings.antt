@@ -1,22 +1,21 @@
 -- The walk over a fragment's nodes, step by step: what is left to read gives what the whole gives.
-use Prim.Native.Nat.{ℕ, _+_, _-_, _≤_, _<_}
+use Prim.Native.Nat.{ℕ, _+_, _-_, _<_}
 use mathlib.Core.Path.{_≡_, refl, sym, ap, ap₂, _∙_}
-use mathlib.Core.Bool.{Bool, true, false, cond, _&&_}
+use mathlib.Core.Bool.{true, false, _&&_}
 use mathlib.Core.List.{List, [], _∷_, _++_, map, append-assoc, append-nil}
-use mathlib.Core.Logic.{⊎-elim, inl, inr}
+use mathlib.Core.Logic.{inl, inr}
 use lib.Dec.{eqb}
-use lib.ListN.{length}
 use native.Mathlib.Omega.{arith}
 use Rattle.std.proofs.shelf.Lists.{map-append, length-append}
 use Rattle.std.proofs.shelf.Tests.{cases-bool}
 use Rattle.std.proofs.shelf.Ways.{tells}
 use Rattle.model.specs.declared.types.Span.{Span}
 use Rattle.model.specs.Bytes.{le}
-use Rattle.model.specs.Faults.{fault, Outcome, done, refused}
+use Rattle.model.specs.Faults.{fault, refused}
 use Rattle.model.specs.References.{present}
 use Rattle.model.specs.Nodes.{Node, node-at, size-bits, field-of, hands-over, bad-node, referring}
 use Rattle.model.specs.ListFragments.{nodes-from, nodes-to}
-use Rattle.model.specs.OpenedLists.{NodePart, counted, uncounted, nodes-at}
+use Rattle.model.specs.OpenedLists.{nodes-at}
 use Rattle.format.specs.declared.nodes.Head.{Head}
 use Rattle.format.specs.Heads.{head-of}
 use Rattle.section.specs.declared.room.Named.{Named}
@@ -34,7 +33,7 @@ pub names-of-none : names-of [] ≡ []
 unfolding referring
 names-of-none = refl
 
-referring-both : (base : ℕ) (ns ms : List Node) → referring base (ns ++ ms) ≡ referring base ns ++ referring base ms
+pub referring-both : (base : ℕ) (ns ms : List Node) → referring base (ns ++ ms) ≡ referring base ns ++ referring base ms
 unfolding referring
 referring-both base [] ms = refl
 referring-both base (n ∷ ns) ms = let ih = referring-both base ns ms in grind arith

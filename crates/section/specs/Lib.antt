@@ -9,3 +9,4 @@ pub mod Rows
 pub mod Checked
 pub mod Listings
 pub mod Opening
+pub mod DataWalks

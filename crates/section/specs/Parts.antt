@@ -11,7 +11,7 @@ use Rattle.model.specs.declared.types.Span.{Span}
 use Rattle.model.specs.Faults.{done, refused}
 use Rattle.model.specs.Nodes.{Node}
 use Rattle.model.specs.ListFragments.{nodes-from, nodes-to}
-use Rattle.model.specs.OpenedLists.{NodePart, counted, uncounted, nodes-at}
+use Rattle.model.specs.OpenedLists.{counted, uncounted, nodes-at}
 use Rattle.section.specs.declared.room.Named.{Named}
 use Rattle.section.specs.declared.faults.InList.{InList}
 use Rattle.section.specs.declared.lists_pass.Part.{Part}

@@ -1,5 +1,5 @@
 -- One node of a list fragment after the other.
-use Prim.Native.Nat.{ℕ, _+_, _≤_}
+use Prim.Native.Nat.{ℕ, _+_}
 use mathlib.Core.Path.{_≡_}
 use mathlib.Core.Bool.{Bool, true, false, cond, _||_}
 use mathlib.Core.List.{List}
@@ -8,7 +8,7 @@ use Rattle.std.specs.declared.option.Option.{Option}
 use Rattle.std.specs.declared.option.Option.the-variants.{Some, None}
 use Rattle.model.specs.Bytes.{le}
 use Rattle.model.specs.References.{start-width, size-width}
-use Rattle.model.specs.Nodes.{Node, node-at, refers, hands-over}
+use Rattle.model.specs.Nodes.{node-at, refers, hands-over}
 use Rattle.format.specs.declared.nodes.Head.{Head}
 use Rattle.format.specs.declared.nodes.NodeHead.{NodeHead}
 use Rattle.format.specs.Heads.{head-of}

@@ -1,7 +1,5 @@
-use Prim.Native.Nat.{_≤_}
-use mathlib.Core.Path.{_≡_, ap, _∙_}
+use mathlib.Core.Path.{_≡_, _∙_}
 use native.Mathlib.Omega.{arith}
-use lib.ListN.{length}
 use Rattle.model.specs.Bytes.{le}
 use Rattle.format.specs.Heads.{head-of}
 use Rattle.format.proofs.Referred.{head-window, node-window}

@@ -1,4 +1,4 @@
-use mathlib.Core.Path.{_≡_, ap, _∙_}
+use mathlib.Core.Path.{ap}
 use Rattle.std.specs.Of.Vec.{vec-items}
 use Rattle.section.specs.Checked.{begin-checks}
 use Rattle.section.proofs.FirstSteps.{begun-told, checked-err, none-err}

@@ -1,4 +1,4 @@
-use mathlib.Core.Path.{_≡_, _∙_}
+use mathlib.Core.Path.{_∙_}
 use Rattle.section.proofs.FirstNames.{named-both, named-root}
 use Rattle.section.proofs.lists_pass.name_first.Needs as need
 

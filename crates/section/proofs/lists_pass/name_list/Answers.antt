@@ -1,4 +1,4 @@
-use mathlib.Core.Path.{_≡_, refl}
+use mathlib.Core.Path.{refl}
 use Rattle.section.proofs.Queued.{named-then, named-else}
 use Rattle.section.proofs.lists_pass.name_list.Needs as need
 

@@ -1,4 +1,4 @@
-use mathlib.Core.Path.{_≡_, ap, _∙_}
+use mathlib.Core.Path.{ap, _∙_}
 use Rattle.std.specs.Of.Vec.{vec-items}
 use Rattle.section.proofs.FirstNames.{held-first-names}
 use Rattle.section.proofs.Openings.{holds-at}

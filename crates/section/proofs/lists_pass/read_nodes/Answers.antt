@@ -1,6 +1,6 @@
 use native.Mathlib.Omega.{arith}
-use mathlib.Core.Path.{_≡_, refl, _∙_}
-use Rattle.section.proofs.NodeSteps.{over-room, good-within}
+use mathlib.Core.Path.{refl, _∙_}
+use Rattle.section.proofs.NodeSteps.{good-within}
 use Rattle.section.proofs.Walkings.{walking-none, walking-more, walked-over, walked-bad, walked-end}
 use Rattle.section.proofs.lists_pass.read_nodes.Needs as need
 

@@ -1,9 +1,9 @@
-use Prim.Native.Nat.{_+_, _≤_, _<_}
+use Prim.Native.Nat.{_+_, _<_}
 use native.Mathlib.Omega.{arith}
-use mathlib.Core.Path.{_≡_, refl, sym, ap, _∙_}
-use mathlib.Core.List.{[], _∷_, _++_}
-use lib.ListN.{length, take}
-use Rattle.std.specs.Of.Vec.{vec-items, vec-len}
+use mathlib.Core.Path.{refl, ap, _∙_}
+use mathlib.Core.List.{[], _∷_}
+use lib.ListN.{length}
+use Rattle.std.specs.Of.Vec.{vec-items}
 use Rattle.std.proofs.shelf.Lists.{length-append}
 use Rattle.section.proofs.ListWalks.{listing-none, listing-more, listing-whole, listing-bad, listing-refused, listing-at, walked-at, rests-err, listing-few, taken-first}
 use Rattle.section.proofs.lists_pass.read_rest.Needs as need

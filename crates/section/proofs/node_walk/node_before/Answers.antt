@@ -1,5 +1,4 @@
-use mathlib.Core.Path.{_≡_, sym, ap, _∙_}
-use native.Mathlib.Omega.{arith}
+use mathlib.Core.Path.{sym, ap, _∙_}
 use Rattle.section.proofs.NodeSteps.{over-short, over-id, over-not}
 use Rattle.section.proofs.node_walk.node_before.Needs as need
 

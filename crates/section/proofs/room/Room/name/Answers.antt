@@ -1,5 +1,5 @@
 use native.Mathlib.Omega.{arith}
-use mathlib.Core.Path.{_≡_, refl}
+use mathlib.Core.Path.{refl}
 use Rattle.section.proofs.Queued.{name-added, name-left}
 use Rattle.section.proofs.room.Room.name.Needs as need
 
