@@ -61,11 +61,11 @@ extends (suc n) b id stop p ns q e = elim (cases-bool (hands-over (le 4 b p) sto
   | inr a ↦ elim (cases-bool (bad-node (le 4 b p) stop p)) [
     | inl d ↦ absurd (let y = sym (walk-bad (suc n) b id stop p ns (omega arith) a d) ∙ e in let z : _≡_ {A = ℕ} 0 1 = cc in omega arith)
     | inr d ↦
-      let k : suc n - 1 ≡ n = omega arith in
-      let y : nodes-at n b id stop (p + size-bits (le 4 b p)) (ns ++ (node-at b p ∷ [])) ≡ done q
-          = ap (λ j. nodes-at j b id stop (p + size-bits (le 4 b p)) (ns ++ (node-at b p ∷ []))) (sym k) ∙ sym (walk-on (suc n) b id stop p ns (omega arith) a d) ∙ e in
-      let (rest, x) = extends n b id stop (p + size-bits (le 4 b p)) (ns ++ (node-at b p ∷ [])) q y in
-      (node-at b p ∷ rest, x ∙ append-assoc ns (node-at b p ∷ []) rest)
+        let k : suc n - 1 ≡ n = omega arith in
+        let y : nodes-at n b id stop (p + size-bits (le 4 b p)) (ns ++ (node-at b p ∷ [])) ≡ done q
+        = ap (λ j. nodes-at j b id stop (p + size-bits (le 4 b p)) (ns ++ (node-at b p ∷ []))) (sym k) ∙ sym (walk-on (suc n) b id stop p ns (omega arith) a d) ∙ e in
+        let (rest, x) = extends n b id stop (p + size-bits (le 4 b p)) (ns ++ (node-at b p ∷ [])) q y in
+        (node-at b p ∷ rest, x ∙ append-assoc ns (node-at b p ∷ []) rest)
   ]
 ]
 
@@ -116,7 +116,7 @@ pub scanned-bad : (b : List ℕ) (end : ℕ) (fs : List Span) (left list stop fr
     → hands-over (le 4 b place) stop place ≡ false → h ≡ head-of (le 4 b place) → true ≡ bad-head h stop place → nodes-at left b list stop from [] ≡ done p → ⊥
 scanned-bad b end fs left list stop from k place h p w l o e d q =
     let y : refused (fault 9 3 place list) ≡ done p
-        = sym (walk-bad (left - k) b list stop place (w .nodes) (omega arith) o (sym (bad-is h (le 4 b place) stop place e) ∙ sym d)) ∙ sym (w .goes) ∙ q in
+    = sym (walk-bad (left - k) b list stop place (w .nodes) (omega arith) o (sym (bad-is h (le 4 b place) stop place e) ∙ sym d)) ∙ sym (w .goes) ∙ q in
     let z : _≡_ {A = ℕ} 0 1 = cc in
     omega arith
 
@@ -129,7 +129,7 @@ scanned-err b end fs left list stop from k place h r p (Err y) i w l o e f d g t
     let m = node-at b place in
     let good : bad-node (le 4 b place) stop place ≡ false = sym (bad-is h (le 4 b place) stop place e) ∙ sym d in
     let on : nodes-at (left - k - 1) b list stop (place + size-bits (le 4 b place)) (w .nodes ++ (node-at b place ∷ [])) ≡ done p
-        = sym (walk-on (left - k) b list stop place (w .nodes) (omega arith) o good) ∙ sym (w .goes) ∙ q in
+    = sym (walk-on (left - k) b list stop place (w .nodes) (omega arith) o good) ∙ sym (w .goes) ∙ q in
     let (rest, z) = extends (left - k - 1) b list stop (place + size-bits (le 4 b place)) (w .nodes ++ (node-at b place ∷ [])) p on in
     ap (λ ns. told-by (data-checks end fs list (referring 1 ns))) z ∙ told-all end fs list (w .nodes) m rest (list-told y) (w .none)
     (ap told-by (sym (same-checks end fs list place h r b e f)) ∙ t ∙ ap (λ v. Some (list-told v)) (sym g))
@@ -139,4 +139,4 @@ scanned-err b end fs left list stop from k place h r p (Err y) i w l o e f d g t
     told-all end fs id ns m rest f a c =
         ap (λ xs. told-by (data-checks end fs id xs)) (referring-both 1 (ns ++ (m ∷ [])) rest) ∙ ap told-by (data-both end fs id (referring 1 (ns ++ (m ∷ []))) (referring 1 rest))
         ∙ told-more (data-checks end fs id (referring 1 (ns ++ (m ∷ [])))) (data-checks end fs id (referring 1 rest)) f
-          (ap told-by (data-more end fs id ns m) ∙ told-on (data-checks end fs id (referring 1 ns)) (node-checks end fs id (m .place) (m .base) (m .reference)) a ∙ c)
+        (ap told-by (data-more end fs id ns m) ∙ told-on (data-checks end fs id (referring 1 ns)) (node-checks end fs id (m .place) (m .base) (m .reference)) a ∙ c)

@@ -18,10 +18,10 @@ use crate::node_walk::is_bad;
 use crate::node_walk::node_before;
 use crate::node_walk::nodes_from;
 use crate::node_walk::nodes_to;
-use crate::room::Room;
-use crate::room::Row;
 use crate::places::is_in_header;
 use crate::places::passes;
+use crate::room::Room;
+use crate::room::Row;
 use format::nodes::NodeHead;
 use format::references::is_absent;
 use model::types::Span;
@@ -107,10 +107,16 @@ fn check_reference(end: u64, room: &Room, list: u32, field: u64, span: Span) -> 
     ensures { λ r. ⌜ Checked (reference-checks end (vec-items (now (room .entry) .fragments)) list field span) r ⌝ }
 {
     if passes(end, span) {
-        return Err(InList { fault: ListFault::Outside { place: field }, list });
+        return Err(InList {
+            fault: ListFault::Outside { place: field },
+            list,
+        });
     }
     if overlaps(room, span) {
-        return Err(InList { fault: ListFault::Overlap { place: field }, list });
+        return Err(InList {
+            fault: ListFault::Overlap { place: field },
+            list,
+        });
     }
     Ok(())
 }

@@ -14,7 +14,7 @@ loop-nodes-again g c =
     let e = c .in-Some .ensures tt in (
       good-within (c .in-Some .node .head) _ _ (c .if-is-bad .ensures tt) .0,
       scanned-more _ _ _ _ _ _ _ _ _ (c .in-Some .node .head) (c .in-Some .node .reference) (c .loop-nodes .inv .1) (omega arith) (e .0) (e .1) (e .2) (c .if-is-bad .ensures tt)
-      (c .in-Continue-check-node .ensures tt),
+          (c .in-Continue-check-node .ensures tt),
     )
 
 pub returns-in-rest : need.returns-in-rest
