@@ -1,4 +1,6 @@
 //! 512-byte blocks of a buffer, in the order of a map.
+#![tactic(auto)]
+
 ghost use Rattle.std.specs.Prelude.{◌≡◌, ℕ, ◌+◌, ◌*◌, ◌<◌, ◌≤◌, true, false, [], ◌∷◌, ◌++◌, length, take, drop, vec_len, Decides, MatchResult, ◌≢◌, slice_index, slice_set, refl};
 ghost use Rattle.std.proofs.Common.{◌∙◌, ap, rules, arith};
 ghost use Rattle.model.specs.Bytes.{put, piece, written, applied};

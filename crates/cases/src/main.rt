@@ -1,4 +1,6 @@
 //! Lists each sample file and compares the listing with the one that stands beside it.
+#![tactic(auto)]
+
 use lines::listed;
 use section::files::File;
 use section::room::Room;

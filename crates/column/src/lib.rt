@@ -1,4 +1,6 @@
 //! Numbers in columns of 12.
+#![tactic(auto)]
+
 ghost use Rattle.std.specs.Prelude.{◌≡◌, ◌+◌, ◌^◌, ◌<◌, ◌≤◌, ◌++◌, length, take, drop, Some, None};
 ghost use Rattle.column.specs.Column.{digits, in_column, DigitRule};
 

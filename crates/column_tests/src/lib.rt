@@ -1,4 +1,5 @@
 //! Examples of columns.
+#![tactic(auto)]
 
 #[cfg(test)]
 mod tests {

@@ -1,4 +1,6 @@
 //! What a commit does to a section file: two statements of the model, on the contracts of functions that do nothing.
+#![tactic(auto)]
+
 ghost use Rattle.model.specs.Laws.{CommitReads, LooksGrow};
 
 // after a commit the file opens with the count one higher, and each list holds what it held and then the draft's nodes

@@ -1,4 +1,6 @@
 //! Any store without its first blocks.
+#![tactic(auto)]
+
 ghost use Rattle.std.specs.Prelude.{◌≡◌, ◌+◌, ◌*◌, ◌≤◌, ◌++◌, length, drop, MatchResult};
 ghost use Rattle.std.proofs.Math.Path.{refl};
 ghost use Rattle.std.proofs.Common.{sym, ap, subst, ◌∙◌, rules, arith};

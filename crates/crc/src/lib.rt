@@ -1,4 +1,6 @@
 //! CRC-32 by tables, eight bytes a turn, equal to the register that takes one bit a step.
+#![tactic(auto)]
+
 mod tables;
 
 ghost use Rattle.std.specs.Prelude.{◌≡◌, ◌+◌, ◌*◌, ◌%◌, ◌<◌, ◌≤◌, length, drop, bit_xor};

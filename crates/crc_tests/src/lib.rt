@@ -1,4 +1,5 @@
 //! Examples of CRC-32.
+#![tactic(auto)]
 
 #[cfg(test)]
 mod tests {

@@ -1,4 +1,6 @@
 //! The data references of all lists, one after the other: each ends by the file's end, and shares no byte with the header or a fragment.
+#![tactic(auto)]
+
 ghost use Rattle.std.specs.Prelude.{◌≡◌, ◌+◌, ◌^◌, ◌≤◌, ◌&&◌, List, [], ◌==◌};
 ghost use Rattle.model.specs.Faults.{done};
 ghost use Rattle.model.specs.References.{present};

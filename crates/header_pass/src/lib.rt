@@ -1,4 +1,6 @@
 //! Opening the header: the store is long enough, type and format are right, the code may read it, and a transaction is finished.
+#![tactic(auto)]
+
 ghost use Rattle.std.specs.Prelude.{◌≡◌, ◌+◌, ◌≤◌, length};
 ghost use Rattle.model.specs.Bytes.{piece, same_row};
 ghost use Rattle.header_pass.specs.HeaderRead.{ReadsHeader};

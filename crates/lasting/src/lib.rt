@@ -1,4 +1,5 @@
 //! Finished states last. Each law stands on the contract of a function that does nothing, so that its proof is asked for.
+#![tactic(auto)]
 
 ghost use Rattle.model.specs.Laws.{Local, FreeApart, DraftsWriteFree, WritesTaken, OpensSound, StepsSound, CutsSurvive};
 ghost use Rattle.model.specs.Theorem.{FinishedStatesLast};

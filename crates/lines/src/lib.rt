@@ -1,4 +1,6 @@
 //! The lines of a listing: numbers in columns of 12.
+#![tactic(auto)]
+
 pub mod words;
 
 use column::column;

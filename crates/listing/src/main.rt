@@ -1,4 +1,6 @@
 //! Lists the section file that stands in the first 65,536 bytes of standard input, or tells why it is refused.
+#![tactic(auto)]
+
 use anyhow::anyhow;
 use lines::listed;
 use section::files::File;

@@ -1,4 +1,6 @@
 //! Opening the lists: each that is named, walked whole before the next.
+#![tactic(auto)]
+
 ghost use Rattle.std.specs.Prelude.{◌≡◌, ◌+◌, ◌-◌, ◌^◌, ◌<◌, ◌≤◌, ◌&&◌, [], ◌∷◌, ◌++◌, take, IfOk, if◌then◌else◌, vec_len, OnOk, ◌==◌};
 ghost use Rattle.counts.specs.Noted.{noted};
 ghost use Rattle.model.specs.Faults.{fault};

@@ -1,4 +1,6 @@
 //! Opening the log: each fragment's place, then its entries up to the last finished sentinel.
+#![tactic(auto)]
+
 ghost use Rattle.std.specs.Prelude.{◌≡◌, ◌+◌, ◌^◌, ◌<◌, ◌≤◌, [], ◌∷◌, if◌then◌else◌, vec_len, OnOk, ◌≢◌};
 ghost use Rattle.model.specs.LogFragments.{entry_at, entry_bytes, entry, entries_in, log_next};
 ghost use Rattle.model.specs.OpenedLog.{outside};

@@ -1,4 +1,5 @@
 //! What an accepted file is, and what a refusal tells. Each law stands on the contract of a function that does nothing, so that its proof is asked for.
+#![tactic(auto)]
 
 ghost use Rattle.model.specs.Laws.{OpenedMeans, MeantOpens, RefusedBreaks};
 

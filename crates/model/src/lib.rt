@@ -1,5 +1,7 @@
 //! The definitions of a section file, in specs/, with the values that code shares with them; and two statements about the smallest good file,
 //! on the contracts of functions that do nothing.
+#![tactic(auto)]
+
 pub mod types;
 pub mod worked;
 

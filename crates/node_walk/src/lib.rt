@@ -1,4 +1,6 @@
 //! One node of a list fragment after the other.
+#![tactic(auto)]
+
 ghost use Rattle.std.specs.Prelude.{◌≡◌, ◌+◌, ◌-◌, ◌^◌, ◌<◌, ◌≤◌, true, false, if◌then◌else◌, nat_lt};
 ghost use Rattle.model.specs.Nodes.{refers};
 ghost use Rattle.model.specs.References.{start_width, size_width};

@@ -1,4 +1,6 @@
 //! Ranges of a file that share no byte with one another, ordered by their starts: whether another range shares a byte with one of them.
+#![tactic(auto)]
+
 ghost use Rattle.std.specs.Prelude.{◌≡◌, ℕ, ◌+◌, ◌<◌, ◌≤◌, true, false, not, ◌&&◌, [], IfOk, vec_len, vec_capacity, nat_lt};
 ghost use Rattle.model.specs.References.{meets};
 ghost use Rattle.ranges.specs.Ordered.{start_at, end_at, reaches, begins_within, near, Adds};

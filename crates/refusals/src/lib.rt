@@ -1,2 +1,4 @@
 //! Why a file is not opened, and what each refusal tells.
+#![tactic(auto)]
+
 pub mod faults;

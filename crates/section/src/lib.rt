@@ -1,4 +1,6 @@
 //! A section file over any store: opened, and looked at.
+#![tactic(auto)]
+
 pub mod access;
 pub mod files;
 mod opening;

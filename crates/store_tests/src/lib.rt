@@ -1,4 +1,5 @@
 //! Examples of stores.
+#![tactic(auto)]
 
 #[cfg(test)]
 mod tests {

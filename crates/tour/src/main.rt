@@ -1,4 +1,6 @@
 //! A section laid out in three kinds of store, read back, opened and listed; and one refusal of each layer.
+#![tactic(auto)]
+
 use anyhow::anyhow;
 use card_store::Card;
 use cover_store::Cover;

@@ -7,7 +7,7 @@ use Rattle.crc.proofs.after_rest.Goals as goal
 pub loop-at-preserved : goal.loop-at-preserved
 loop-at-preserved c =
     let bs = c.args.bytes.now in
-    ap (λ r. run crc_32 r (drop (c.loop-at.at + 1) bs)) c.after-byte-register.ensures
+    ap (λ r. run crc_32 r (drop (c.loop-at.at + 1) bs)) c.after_byte-register.ensures
     ∙ sym (run-one crc_32 c.loop-at.register bs c.loop-at.at (omega arith)) ∙ c.loop-at.invariant
 
 pub returns : goal.returns
