@@ -17,6 +17,8 @@ import sys
 
 DECLARE = re.compile(r"(?:pub |abbrev |unfoldable )*((?:[^\s(){}:⌜]+ )+): ?(.*)")
 MEMBER = re.compile(r"\s+(?:pub )?((?:[^\s(){}:]+ )+): ")
+BORROWED = re.compile(r"^use (?!Rattle[.·](?:%s)\.)\S*\{([^}]*)\}", re.M)
+DASHED = re.compile(r"[\w']-\w")
 HEAD = re.compile(r"(?:pub |abbrev |unfoldable )*(data|record|ruleset) (\S+)")
 GOAL = re.compile(r"(goal|need|given)\.")
 TOKEN = re.compile(r"""[^\s(){}\[\],;.:λ⌜⌝|`"]+""")
@@ -31,29 +33,46 @@ def files(*patterns):
         yield from sorted(p for p in glob.glob(pattern, recursive=True) if "/out/" not in p)
 
 
+def crates():
+    return "|".join(os.path.basename(p) for p in glob.glob("crates/*"))
+
+
+def borrowed(text):
+    """The names that a file takes from the library."""
+    pattern = re.compile(BORROWED.pattern % crates(), re.M)
+    return {n for m in pattern.finditer(text) for n in re.split(r"[,\s]+", m.group(1))}
+
+
 def declared():
-    """Each name that a file declares, with the files."""
+    """Each name that a file declares, in whatever way, with the files."""
     names = collections.defaultdict(set)
     for path in files("crates/*/specs/**/*.antt", "crates/*/proofs/**/*.antt"):
         inside = False
         with open(path, encoding="utf-8") as f:
-            for line in f:
-                head, member, sign = HEAD.match(line), MEMBER.match(line), DECLARE.match(line)
-                if line.startswith("--"):
-                    continue
-                if head:
-                    inside = True
-                    names[head.group(2)].add(path)
-                elif inside and member:
-                    for n in member.group(1).split():
+            text = f.read()
+        if os.path.basename(os.path.dirname(path)) in ("specs", "proofs"):
+            others = borrowed(text)
+            for piece, aside in outside_comments(text, "--"):
+                for n in () if aside else TOKEN.findall(piece):
+                    if DASHED.search(n) and n not in others:
                         names[n].add(path)
-                elif sign:
-                    inside = False
-                    if not GOAL.match(sign.group(2)):
-                        for n in sign.group(1).split():
-                            names[n].add(path)
-                elif line.strip() and not line[0].isspace():
-                    inside = False
+        for line in text.split("\n"):
+            head, member, sign = HEAD.match(line), MEMBER.match(line), DECLARE.match(line)
+            if line.startswith("--"):
+                continue
+            if head:
+                inside = True
+                names[head.group(2)].add(path)
+            elif inside and member:
+                for n in member.group(1).split():
+                    names[n].add(path)
+            elif sign:
+                inside = False
+                if not GOAL.match(sign.group(2)):
+                    for n in sign.group(1).split():
+                        names[n].add(path)
+            elif line.strip() and not line[0].isspace():
+                inside = False
     return names
 
 
@@ -121,7 +140,8 @@ def main():
     for path in files("crates/*/specs/**/*.antt", "crates/*/proofs/**/*.antt", "crates/*/src/**/*.rt", "crates/*/must-fail/*.edit", "README.md", "docs/*.md"):
         with open(path, encoding="utf-8") as f:
             text = f.read()
-        to = turned(path, text, new)
+        others = borrowed(text)
+        to = turned(path, text, {old: n for old, n in new.items() if old not in others})
         if to != text:
             with open(path, "w", encoding="utf-8") as f:
                 f.write(to)

@@ -40,8 +40,8 @@ module _ (xs : List ℕ) (n e r : ℕ) (h : 10 ≤ n) (p : 0 < e) (w : e ≤ len
       ∙ ap (λ t. take r xs ++ t) (sym (append_assoc ds ((48 + n % 10) ∷ []) (drop e xs)))
       ∙ ap (λ t. take r xs ++ (t ++ drop e xs)) (sym (digits_more n h))
 
-  pub behind-size : r + length (digits n) ≡ e
-  behind-size = omega (arith, ap length (digits_more n h), length-append (digits (n / 10)) ((48 + n % 10) ∷ []))
+  pub behind_size : r + length (digits n) ≡ e
+  behind_size = omega (arith, ap length (digits_more n h), length-append (digits (n / 10)) ((48 + n % 10) ∷ []))
 
 -- in a column of spaces
 pub filled : (n r : ℕ) (col : List ℕ) → r + length (digits n) ≡ 12 → col ≡ take r (replicate 12 32) ++ (digits n ++ drop 12 (replicate 12 32)) → col ≡ in_column n

@@ -170,7 +170,7 @@ data_step c s y ls list id payload content d f i k o z m =
     let fit : DataFits e (gs ++ list_fragments ls) r = (omega arith, far) in
     let st : piece (written c E P) E (length content) ≡ content = piece_stored (written c E P) E content (stored_front (written c E P) E content pad (stored_written c E P d.laid.body.whole)) in
     let (ms, dr, gr) = simple_step (written c E P) s y1 ls list (referring_node id 1 r payload) (λ p. referring_of p id 1 r payload) (content_of id 1 (Some r) payload content) d1
-    (record { made = referring_made id 1 r payload i (omega arith) (omega arith) k (omega arith) (omega arith); data_fits = λ p. one-fits (DataFits e (gs ++ list_fragments ls)) (referring_of p id 1 r payload) fit })
+    (record { made = referring_made id 1 r payload i (omega arith) (omega arith) k (omega arith) (omega arith); data_fits = λ p. one_fits (DataFits e (gs ++ list_fragments ls)) (referring_of p id 1 r payload) fit })
     (omega arith) f.highest (omega (arith, f.fragments)) m (λ p. refl) (λ p. data_holds (written c E P) p id E payload content o st) in (
       ms,
       dr,
@@ -181,8 +181,8 @@ data_step c s y ls list id payload content d f i k o z m =
       },
     )
   where
-    one-fits : (Q : Span → Type 0) (n : Node) → Q n.reference → All Q (references (n ∷ []))
-    one-fits Q n q = elim (cases_Bool (eqb n.base 1 && present n.reference)) [
+    one_fits : (Q : Span → Type 0) (n : Node) → Q n.reference → All Q (references (n ∷ []))
+    one_fits Q n q = elim (cases_Bool (eqb n.base 1 && present n.reference)) [
       | inl e ↦ rw e (q, tt)
       | inr e ↦ rw e tt
     ]
@@ -197,25 +197,25 @@ find_left id (t ∷ ts) us e = elim (cases_Bool (eqb t.id id)) [
 ]
 
 -- the new list of a branch stands, and no node names it yet
-with_list_laid : (c : List ℕ) (s : Section) (y : Layout) (ls : List NodeList) (list first-id : ℕ) (first : List ℕ) → Laid c s y ls → Fine y → Fair first-id → 4 + length first ≤ 988
+with_list_laid : (c : List ℕ) (s : Section) (y : Layout) (ls : List NodeList) (list first_id : ℕ) (first : List ℕ) → Laid c s y ls → Fine y → Fair first_id → 4 + length first ≤ 988
     → 16 ≤ y.highest → y.highest + 1 < 2 ^ 32
-    → let node = plain_node first-id first in
+    → let node = plain_node first_id first in
     let nf = new_fragment (y.highest + 1) 0 node in
     let piece = at_end y nf in
     Laid (written c y.end piece.new) s
     (more_lists list (tail (y.highest + 1) (span y.end 1024) 0 (y.end + 16 + length node) 1) (more_fragments (ending_at (behind piece) y)))
-    (ls ++ (new_list (y.highest + 1) y.end (plain_of (y.end + 16) first-id first) (y.end + 16 + length node) ∷ []))
+    (ls ++ (new_list (y.highest + 1) y.end (plain_of (y.end + 16) first_id first) (y.end + 16 + length node) ∷ []))
 unfolding referring
-with_list_laid c s y ls list first-id first d f i k u v =
+with_list_laid c s y ls list first_id first d f i k u v =
     let E = y.end in
     let h : Header = up_to s.header E in
     let gs = s.log.fragments in
     let id : ℕ = y.highest + 1 in
-    let node : List ℕ = plain_node first-id first in
+    let node : List ℕ = plain_node first_id first in
     let nf : List ℕ = new_fragment id 0 node in
     let pad : List ℕ = replicate ((8 - (E + length nf) % 8) % 8) 0 in
-    let m : Made node (λ p. plain_of p first-id first) = plain_made first-id first i k in
-    let l : NodeList = new_list id E (plain_of (E + 16) first-id first) (E + 16 + length node) in
+    let m : Made node (λ p. plain_of p first_id first) = plain_made first_id first i k in
+    let l : NodeList = new_list id E (plain_of (E + 16) first_id first) (E + 16 + length node) in
     let ln : length nf ≡ 1024 = length_new_fragment id 0 node m.short in
     let e : ℕ = E + length (nf ++ pad) in
     let lp : length (nf ++ pad) ≡ length nf + length pad = length-append nf pad in
@@ -225,7 +225,7 @@ with_list_laid c s y ls list first-id first d f i k u v =
     let dl = d.lists in
     let q2 = length-append ls (l ∷ []) in
     record {
-      body = body_list c h e gs ls id node pad (λ p. plain_of p first-id first) m d.body (omega arith) (omega arith) v
+      body = body_list c h e gs ls id node pad (λ p. plain_of p first_id first) m d.body (omega arith) (omega arith) v
           (All-weaker (λ l. l.id ≤ y.highest) (λ l. l.id ≢ id) (λ l x z. omega arith) ls d.known) refl;
       tails = ap (λ z. z ++ (tail_of l ∷ [])) d.tails ∙ sym (map-append tail_of ls (l ∷ []));
       lists = omega arith;
@@ -234,11 +234,11 @@ with_list_laid c s y ls list first-id first d f i k u v =
     }
 
 -- a node that names a new list
-pub branch_step : (c : List ℕ) (s : Section) (y : Layout) (ls : List NodeList) (list id : ℕ) (payload : List ℕ) (first-id : ℕ) (first : List ℕ) → Drafted c s y ls → Fine y
-    → Fair id → 16 + length payload ≤ 988 → Fair first-id → 4 + length first ≤ 988 → y.highest + 1 < 2 ^ 32 → member list (map (λ t. t.id) y.tails) ≡ true
-    → Stepped c s y ls (branch list id payload first-id first)
+pub branch_step : (c : List ℕ) (s : Section) (y : Layout) (ls : List NodeList) (list id : ℕ) (payload : List ℕ) (first_id : ℕ) (first : List ℕ) → Drafted c s y ls → Fine y
+    → Fair id → 16 + length payload ≤ 988 → Fair first_id → 4 + length first ≤ 988 → y.highest + 1 < 2 ^ 32 → member list (map (λ t. t.id) y.tails) ≡ true
+    → Stepped c s y ls (branch list id payload first_id first)
 unfolding planned referring applied
-branch_step c s y ls list id payload first-id first d f i k j l0 v m =
+branch_step c s y ls list id payload first_id first d f i k j l0 v m =
     let fd = found ls list (subst (λ (z : List Tail). member list (map (λ t. t.id) z) ≡ true) d.laid.tails m) in
     at_split fd.pre fd.list fd.post fd.split fd.same fd.tail'
   where
@@ -249,7 +249,7 @@ branch_step c s y ls list id payload first-id first d f i k j l0 v m =
     fresh = span E 1024
 
     node : List ℕ
-    node = plain_node first-id first
+    node = plain_node first_id first
 
     new : List ℕ
     new = referring_node id 2 fresh payload
@@ -267,13 +267,13 @@ branch_step c s y ls list id payload first-id first d f i k j l0 v m =
     c1 = written c E (nf ++ pad)
 
     l2 : NodeList
-    l2 = new_list (y.highest + 1) E (plain_of (E + 16) first-id first) (E + 16 + length node)
+    l2 = new_list (y.highest + 1) E (plain_of (E + 16) first_id first) (E + 16 + length node)
 
     X : Content
     X = content_of id 2 (Some fresh) payload []
 
     Y : Content
-    Y = content_of first-id 0 None first []
+    Y = content_of first_id 0 None first []
 
     goal : ℕ → Type 0
     goal x = (ms : List NodeList) × Drafted (applied c1 (with_node (y1 x) x new).writes) s (with_node (y1 x) x new).layout ms
@@ -288,14 +288,14 @@ branch_step c s y ls list id payload first-id first d f i k j l0 v m =
         let (u0, u1) = all_front (λ m. m.id ≤ y.highest) pre (l ∷ post) d0.known in
         let real = r1.0.part.real in
         let top = u1.0 in
-        let d1 : Laid c1 s (y1 l.id) ((pre ++ (l ∷ post)) ++ (l2 ∷ [])) = with_list_laid c s y (pre ++ (l ∷ post)) l.id first-id first d0 f j l0 (omega arith) v in
+        let d1 : Laid c1 s (y1 l.id) ((pre ++ (l ∷ post)) ++ (l2 ∷ [])) = with_list_laid c s y (pre ++ (l ∷ post)) l.id first_id first d0 f j l0 (omega arith) v in
         let d2 : Laid c1 s (y1 l.id) (pre ++ (l ∷ (post ++ (l2 ∷ [])))) = subst (λ z. Laid c1 s (y1 l.id) z) (append_assoc pre (l ∷ post) (l2 ∷ [])) d1 in
         let a2 : Addable s (y1 l.id) (pre ++ (l ∷ (post ++ (l2 ∷ [])))) new (λ p. referring_of p id 2 fresh payload)
         = record { made = referring_made id 2 fresh payload i (omega arith) (omega arith) k (omega (arith, f.end)) (omega arith); data_fits = λ p. tt } in
         let t1 : find_tail (y1 l.id).tails l.id ≡ tail_of l
         = find_left l.id y.tails (tail (y.highest + 1) fresh 0 (E + 16 + length node) 1 ∷ []) (subst (λ z. member z (map (λ t. t.id) y.tails) ≡ true) (sym q) m)
         ∙ ap (λ z. find_tail y.tails z) q ∙ ap (λ z. find_tail z list) d.laid.tails ∙ t in
-        let ln : length nf ≡ 1024 = length_new_fragment (y.highest + 1) 0 node (plain_made first-id first j l0).short in
+        let ln : length nf ≡ 1024 = length_new_fragment (y.highest + 1) 0 node (plain_made first_id first j l0).short in
         let lp : length (nf ++ pad) ≡ length nf + length pad = length-append nf pad in
         let lq : length pad ≡ (8 - (E + length nf) % 8) % 8 = length-replicate ((8 - (E + length nf) % 8) % 8) 0 in
         let fe = f.end in
@@ -339,7 +339,7 @@ branch_step c s y ls list id payload first-id first d f i k j l0 v m =
                 let g2 : map (holds c1) (nodes_of (pre ++ (l ∷ (post ++ (l2 ∷ [])))) x) ≡ A ++ cond (eqb (y.highest + 1) x) (Y ∷ []) []
                 = ap (λ (z : List NodeList). map (holds c1) (nodes_of z x)) (sym (append_assoc pre (l ∷ post) (l2 ∷ [])))
                 ∙ list_holds c c1 (pre ++ (l ∷ post)) l2 Y x (All-weaker (λ m. m.id ≤ y.highest) (λ m. m.id ≢ y.highest + 1) (λ m z w. omega arith) (pre ++ (l ∷ post)) d0.known)
-                (ap (λ (z : Content). z ∷ []) (plain_holds c1 (E + 16) first-id first)) (longer_held c s y (pre ++ (l ∷ post)) (nf ++ pad) x d0)
+                (ap (λ (z : Content). z ∷ []) (plain_holds c1 (E + 16) first_id first)) (longer_held c s y (pre ++ (l ∷ post)) (nf ++ pad) x d0)
                 ∙ ap (λ (z : List NodeList). map (holds c) (nodes_of z x) ++ cond (eqb (y.highest + 1) x) (Y ∷ []) []) (sym e) in
                 g1 ∙ ap (λ (z : List Content). z ++ cond (eqb l.id x) (X ∷ []) []) g2 ∙ either_sum A X Y l.id (y.highest + 1) x (omega arith);
             known = λ x h. taken_push pre l p.list (post ++ (l2 ∷ [])) x p.same ∙ ap (λ (z : List NodeList). taken x z) (sym (append_assoc pre (l ∷ post) (l2 ∷ [])))

@@ -61,7 +61,7 @@ planned_counts : (y : Layout) (a : Add) → (find_tail (planned y a).layout.tail
 unfolding planned
 planned_counts y (plain list id payload) h a = node_counts y list _ h a
 planned_counts y (with_data list id payload content) h a = node_counts _ list _ h a
-planned_counts y (branch list id payload first-id first) h a = node_counts _ list _ h (All-append (λ t. t.count < 2 ^ 32) y.tails (_ ∷ []) a (omega arith, tt))
+planned_counts y (branch list id payload first_id first) h a = node_counts _ list _ h (All-append (λ t. t.count < 2 ^ 32) y.tails (_ ∷ []) a (omega arith, tt))
 
 fine : (ceiling : ℕ) (y : Layout) (a : Add) → Fine y → Clean (add_checks ceiling y a) → Fine (planned y a).layout
 fine ceiling y a f c =
@@ -70,11 +70,11 @@ fine ceiling y a f c =
     let k13 = c.1.1.1.1.0 in
     let k23 = c.1.1.1.1.1.0 in
     let k24 = c.1.1.1.1.1.1.0 in
-    fine-from y.end ceiling (planned y a).layout (find_tail (planned y a).layout.tails (list_of a)).count e k20 k13 k23 k24 (λ h. planned_counts y a h f.counts)
+    fine_from y.end ceiling (planned y a).layout (find_tail (planned y a).layout.tails (list_of a)).count e k20 k13 k23 k24 (λ h. planned_counts y a h f.counts)
   where
-    fine-from : (old ceiling : ℕ) (z : Layout) (n : ℕ) → old ≤ 2 ^ 40 → ltb 16 (length z.touched) ≡ false → ltb 1024 z.lists || ltb 2048 z.fragments ≡ false → leb (2 ^ 32) n || leb (2 ^ 32) z.highest ≡ false
+    fine_from : (old ceiling : ℕ) (z : Layout) (n : ℕ) → old ≤ 2 ^ 40 → ltb 16 (length z.touched) ≡ false → ltb 1024 z.lists || ltb 2048 z.fragments ≡ false → leb (2 ^ 32) n || leb (2 ^ 32) z.highest ≡ false
         → past_ceiling old ceiling z.end ≡ false → (n < 2 ^ 32 → FewCounts z.tails) → Fine z
-    fine-from old ceiling z n o t p q r k = record {
+    fine_from old ceiling z n o t p q r k = record {
       end = grind (arith, nat_tests);
       highest = grind (arith, nat_tests);
       fragments = grind (arith, nat_tests);
@@ -83,9 +83,9 @@ fine ceiling y a f c =
       counts = let h : n < 2 ^ 32 = grind (arith, nat_tests) in k h;
     }
 
-branch_highest : (y : Layout) (list id : ℕ) (payload : List ℕ) (first-id : ℕ) (first : List ℕ) → (planned y (branch list id payload first-id first)).layout.highest ≡ y.highest + 1
+branch_highest : (y : Layout) (list id : ℕ) (payload : List ℕ) (first_id : ℕ) (first : List ℕ) → (planned y (branch list id payload first_id first)).layout.highest ≡ y.highest + 1
 unfolding planned
-branch_highest y list id payload first-id first = with_node_highest _ list _
+branch_highest y list id payload first_id first = with_node_highest _ list _
 
 -- one add that passes its checks
 pub add_step : (c : List ℕ) (ceiling : ℕ) (s : Section) (y : Layout) (ls : List NodeList) (a : Add) → Drafted c s y ls → Fine y → Clean (add_checks ceiling y a)
@@ -98,15 +98,15 @@ add_step c ceiling s y ls (with_data list id payload content) d f k =
     let m = k.0 in
     let z = k.1.0 in
     (data_step c s y ls list id payload content d f (fair id k.1.1.0) (grind (arith, nat_tests)) (grind (arith, nat_tests)) (grind (arith, nat_tests)) (grind (arith, nat_tests)), fine ceiling y (with_data list id payload content) f k)
-add_step c ceiling s y ls (branch list id payload first-id first) d f k =
+add_step c ceiling s y ls (branch list id payload first_id first) d f k =
     let m = k.0 in
     let z = k.1.0 in
     let w = k.1.1.0 in
-    let g = fine ceiling y (branch list id payload first-id first) f k in
-    let top : y.highest + 1 < 2 ^ 32 = rw (branch_highest y list id payload first-id first) at g.highest in
+    let g = fine ceiling y (branch list id payload first_id first) f k in
+    let top : y.highest + 1 < 2 ^ 32 = rw (branch_highest y list id payload first_id first) at g.highest in
     let w1 : bad_id id ≡ false = grind (arith, nat_tests) in
-    let w2 : bad_id first-id ≡ false = grind (arith, nat_tests) in
-    (branch_step c s y ls list id payload first-id first d f (fair id w1) (grind (arith, nat_tests)) (fair first-id w2) (grind (arith, nat_tests)) top (grind (arith, nat_tests)), g)
+    let w2 : bad_id first_id ≡ false = grind (arith, nat_tests) in
+    (branch_step c s y ls list id payload first_id first d f (fair id w1) (grind (arith, nat_tests)) (fair first_id w2) (grind (arith, nat_tests)) top (grind (arith, nat_tests)), g)
 
 -- all adds: the lists are those of a draft, and have grown by what the adds save
 pub adds_drafted : (c : List ℕ) (ceiling : ℕ) (s : Section) (y : Layout) (ls : List NodeList) (adds : List Add) → Drafted c s y ls → Fine y → DoneAdds ceiling y adds

@@ -85,13 +85,13 @@ unfolding node_seen data_seen
 seen_alike c b t s (node_look k list index buffer) a = then_alike c b (node_of t k list index) (node_of s k list index) (node_seen buffer) (node_seen buffer) (a list index) (same_node c b buffer)
 seen_alike c b t s (data_look k list index place size buffer) a =
     then_alike c b (node_of t k list index) (node_of s k list index) (λ n. data_seen c place size buffer (data_of n)) (λ n. data_seen b place size buffer (data_of n)) (a list index) (same_data_of c b place size buffer)
-seen_alike c b t s (alike k list index other-list other-index) a =
+seen_alike c b t s (alike k list index other_list other_index) a =
     then_alike c b (node_of t k list index) (node_of s k list index)
-    (λ n. then (node_of t k other-list other-index) (λ m. done (equal (eqb n.id m.id && same_row n.payload m.payload))))
-    (λ n. then (node_of s k other-list other-index) (λ m. done (equal (eqb n.id m.id && same_row n.payload m.payload))))
-    (a list index) (λ n n' e. then_alike c b (node_of t k other-list other-index) (node_of s k other-list other-index)
+    (λ n. then (node_of t k other_list other_index) (λ m. done (equal (eqb n.id m.id && same_row n.payload m.payload))))
+    (λ n. then (node_of s k other_list other_index) (λ m. done (equal (eqb n.id m.id && same_row n.payload m.payload))))
+    (a list index) (λ n n' e. then_alike c b (node_of t k other_list other_index) (node_of s k other_list other_index)
     (λ m. done (equal (eqb n.id m.id && same_row n.payload m.payload))) (λ m. done (equal (eqb n'.id m.id && same_row n'.payload m.payload)))
-    (a other-list other-index) (λ m m' f. two (holds c n) (holds b n') (holds c m) (holds b m') e f))
+    (a other_list other_index) (λ m m' f. two (holds c n) (holds b n') (holds c m) (holds b m') e f))
   where
     two : (x x' z z' : Content) → x ≡ x' → z ≡ z'
         → ◌≡◌ {A = Outcome Seen} (done (equal (eqb x.id z.id && same_row x.payload z.payload))) (done (equal (eqb x'.id z'.id && same_row x'.payload z'.payload)))

@@ -76,8 +76,8 @@ module _ (ls : List Counted) (n : ℕ) (rise : Rise ls n) where
       | inr p ↦ ap (λ y. y.list) (get_or-set_other ls i k x no_list p)
     ]
 
-    pub rise-set : (x : Counted) → x.list ≡ id → i < n → id_at ls i ≡ id → Rise (set ls i x) n
-    rise-set x q l e j k (h, m) = omega (arith, rise j k (h, m), kept x q l e j, kept x q l e k)
+    pub rise_set : (x : Counted) → x.list ≡ id → i < n → id_at ls i ≡ id → Rise (set ls i x) n
+    rise_set x q l e j k (h, m) = omega (arith, rise j k (h, m), kept x q l e j, kept x q l e k)
 
     -- a list more stands in order
     module _ (ts : List Counted) (x : Counted) (is : x.list ≡ id) (none : i < n → id_at ls i ≡ id → ⊥)
@@ -90,8 +90,8 @@ module _ (ls : List Counted) (n : ℕ) (rise : Rise ls n) where
         | inr e ↦ omega arith
       ]
 
-      pub rise-more : Rise ts (n + 1)
-      rise-more j k (h, l) = elim (cases_order j i) [
+      pub rise_more : Rise ts (n + 1)
+      rise_more j k (h, l) = elim (cases_order j i) [
         | inl e ↦ let q = high k (omega arith) in let z = behind (k - 1) (omega arith) (omega arith) in grind arith
         | inr (inl b) ↦ elim (cases_order k i) [
           | inl e ↦ let p = low j b in let z = place.below j b in grind arith
@@ -102,35 +102,35 @@ module _ (ls : List Counted) (n : ℕ) (rise : Rise ls n) where
       ]
 
     -- what the test at its place tells
-    stands-there : true ≡ stands id ls n i → (i < n) × (id_at ls i ≡ id)
-    stands-there t = (grind (arith, nat_tests), grind (arith, nat_tests))
+    stands_there : true ≡ stands id ls n i → (i < n) × (id_at ls i ≡ id)
+    stands_there t = (grind (arith, nat_tests), grind (arith, nat_tests))
 
-    stands-not : false ≡ stands id ls n i → i < n → id_at ls i ≡ id → ⊥
-    stands-not t l e = let z : ◌≡◌ {A = Bool} true false = grind (arith, nat_tests) in true≢false z
+    stands_not : false ≡ stands id ls n i → i < n → id_at ls i ≡ id → ⊥
+    stands_not t l e = let z : ◌≡◌ {A = Bool} true false = grind (arith, nat_tests) in true≢false z
 
     pub found : true ≡ stands id ls n i → (x : Counted) → x ≡ get_or ls i x → x.newest ≡ listed id ls
     found t x is =
-        let s = stands-there t in
+        let s = stands_there t in
         ap (λ y. y.newest) (get_or_read_under ls i n x no_list is s.0 long) ∙ sym (listed_at id ls i (omega arith) s.1 place.below)
 
     pub not_found : false ≡ stands id ls n i → 0 ≡ listed id ls
-    not_found t = sym (listed_none id ls (λ k l. missing (stands-not t) k (omega arith)))
+    not_found t = sym (listed_none id ls (λ k l. missing (stands_not t) k (omega arith)))
 
     module _ (x : Counted) (is : x.list ≡ id) where
       pub set_holds : true ≡ stands id ls n i → (z : ℕ) → listed z (set ls i x) ≡ cond (eqb x.list z) x.newest (listed z ls)
       set_holds t z =
-          let s = stands-there t in
+          let s = stands_there t in
           listed_set z ls i x (omega arith) (s.1 ∙ sym is) (λ k l. omega (arith, place.below k l))
 
-      pub set-rises : true ≡ stands id ls n i → Rise (set ls i x) n
-      set-rises t = let s = stands-there t in rise-set x is s.0 s.1
+      pub set_rises : true ≡ stands id ls n i → Rise (set ls i x) n
+      set_rises t = let s = stands_there t in rise_set x is s.0 s.1
 
-      pub inserted-holds : (z : ℕ) → listed z (insert ls i x) ≡ cond (eqb x.list z) x.newest (listed z ls)
-      inserted-holds z = let w = place.within in listed_inserted z ls i x (omega arith) (λ k l. omega (arith, place.below k l))
+      pub inserted_holds : (z : ℕ) → listed z (insert ls i x) ≡ cond (eqb x.list z) x.newest (listed z ls)
+      inserted_holds z = let w = place.within in listed_inserted z ls i x (omega arith) (λ k l. omega (arith, place.below k l))
 
-      pub inserted-rises : false ≡ stands id ls n i → (ts : List Counted)
+      pub inserted_rises : false ≡ stands id ls n i → (ts : List Counted)
           → get_or ts i no_list ≡ x
           → ((k : ℕ) → k < i → get_or ts k no_list ≡ get_or ls k no_list)
           → ((k : ℕ) → i < k → get_or ts k no_list ≡ get_or ls (k - 1) no_list)
           → Rise ts (n + 1)
-      inserted-rises t ts at' low high = rise-more ts x is (stands-not t) at' low high
+      inserted_rises t ts at' low high = rise_more ts x is (stands_not t) at' low high

@@ -125,64 +125,64 @@ passed_by keep cs id n h t =
 
 -- what the newest change of a list tells
 module _ (cs : List Change) (n : ℕ) (long : n ≡ length cs) (id r : ℕ) (newest : r ≡ newest_in id cs n) where
-  pub at-within : r ≤ n
-  at-within = omega (arith, newest_within id cs n)
+  pub at_within : r ≤ n
+  at_within = omega (arith, newest_within id cs n)
 
-  pub at-is : 0 < r → list_at cs (r - 1) ≡ id
-  at-is h = let p : 0 < newest_in id cs n = omega arith in ap (λ k. list_at cs (k - 1)) newest ∙ newest_is id cs n p
+  pub at_is : 0 < r → list_at cs (r - 1) ≡ id
+  at_is h = let p : 0 < newest_in id cs n = omega arith in ap (λ k. list_at cs (k - 1)) newest ∙ newest_is id cs n p
 
-  at-by : (keep : Change → Bool) → by keep (take n cs) id ≡ by keep (take r cs) id
-  at-by keep = newest_by keep id cs n (omega arith) ∙ ap (λ k. by keep (take k cs) id) (sym newest)
+  at_by : (keep : Change → Bool) → by keep (take n cs) id ≡ by keep (take r cs) id
+  at_by keep = newest_by keep id cs n (omega arith) ∙ ap (λ k. by keep (take k cs) id) (sym newest)
 
-  pub at-noted-at : (k : ℕ) → noted_at cs k id ≡ noted_at (take r cs) k id
-  at-noted-at k = ap (λ xs. noted_at xs k id) (sym (take_all n cs (omega arith))) ∙ at-by (λ c. leb c.transaction k)
+  pub at_noted_at : (k : ℕ) → noted_at cs k id ≡ noted_at (take r cs) k id
+  at_noted_at k = ap (λ xs. noted_at xs k id) (sym (take_all n cs (omega arith))) ∙ at_by (λ c. leb c.transaction k)
 
-  pub at-noted : noted cs id ≡ count_to cs r
-  at-noted =
-      sym (noted_by cs id) ∙ ap (λ xs. by (λ c. true) xs id) (sym (take_all n cs (omega arith))) ∙ at-by (λ c. true)
-      ∙ sym (count_by (λ c. true) cs id r (omega (arith, at-within)) at-is (λ h. refl))
+  pub at_noted : noted cs id ≡ count_to cs r
+  at_noted =
+      sym (noted_by cs id) ∙ ap (λ xs. by (λ c. true) xs id) (sym (take_all n cs (omega arith))) ∙ at_by (λ c. true)
+      ∙ sym (count_by (λ c. true) cs id r (omega (arith, at_within)) at_is (λ h. refl))
 
 -- one step back along the changes of a list, and the last step
 module _ (cs : List Change) (n : ℕ) (long : n ≡ length cs) (k id at : ℕ) (within : at ≤ n) (is : 0 < at → list_at cs (at - 1) ≡ id) where
-  later-some : true ≡ later cs k at → 0 < at
-  later-some t = grind (arith, nat_tests)
+  later_some : true ≡ later cs k at → 0 < at
+  later_some t = grind (arith, nat_tests)
 
-  later-not : true ≡ later cs k at → leb (get_or cs (at - 1) no_change).transaction k ≡ false
-  later-not t = grind (arith, nat_tests)
+  later_not : true ≡ later cs k at → leb (get_or cs (at - 1) no_change).transaction k ≡ false
+  later_not t = grind (arith, nat_tests)
 
-  later-kept : false ≡ later cs k at → 0 < at → leb (get_or cs (at - 1) no_change).transaction k ≡ true
-  later-kept t h = grind (arith, nat_tests)
+  later_kept : false ≡ later cs k at → 0 < at → leb (get_or cs (at - 1) no_change).transaction k ≡ true
+  later_kept t h = grind (arith, nat_tests)
 
-  pub back-less : true ≡ later cs k at → (r : ℕ) → r ≡ newest_in (list_at cs (at - 1)) cs (at - 1) → r < at
-  back-less t r e = let some = later-some t in omega (arith, newest_within (list_at cs (at - 1)) cs (at - 1))
+  pub back_less : true ≡ later cs k at → (r : ℕ) → r ≡ newest_in (list_at cs (at - 1)) cs (at - 1) → r < at
+  back_less t r e = let some = later_some t in omega (arith, newest_within (list_at cs (at - 1)) cs (at - 1))
 
   pub back : true ≡ later cs k at → (r : ℕ) → r ≡ newest_in (list_at cs (at - 1)) cs (at - 1)
       → (r ≤ n) × (0 < r → list_at cs (r - 1) ≡ id) × (noted_at (take at cs) k id ≡ noted_at (take r cs) k id)
   back t r e =
-      let some = later-some t in
+      let some = later_some t in
       let f : r ≡ newest_in id cs (at - 1) = e ∙ ap (λ z. newest_in z cs (at - 1)) (is some) in
       let q : at - 1 + 1 ≡ at = omega arith in
       let w = newest_within id cs (at - 1) in
       let keep : Change → Bool = λ c. leb c.transaction k in (
         omega arith,
         λ h. let p : 0 < newest_in id cs (at - 1) = omega arith in ap (λ j. list_at cs (j - 1)) f ∙ newest_is id cs (at - 1) p,
-        ap (λ j. noted_at (take j cs) k id) (sym q) ∙ passed_by keep cs id (at - 1) (omega arith) (later-not t)
+        ap (λ j. noted_at (take j cs) k id) (sym q) ∙ passed_by keep cs id (at - 1) (omega arith) (later_not t)
             ∙ newest_by keep id cs (at - 1) (omega arith) ∙ ap (λ j. by keep (take j cs) id) (sym f),
       )
 
   pub arrived : false ≡ later cs k at → count_to cs at ≡ noted_at (take at cs) k id
-  arrived t = count_by (λ c. leb c.transaction k) cs id at (omega arith) is (later-kept t)
+  arrived t = count_by (λ c. leb c.transaction k) cs id at (omega arith) is (later_kept t)
 
 -- what a table holds with one change more
 module _ (cs ds : List Change) (c : Change) (n m : ℕ) (long : n ≡ length cs) (items : ds ≡ cs ++ c ∷ []) (more : m ≡ n + 1) where
-  pub newest-added : (id a b p : ℕ) → p ≡ n + 1 → a ≡ cond (eqb c.list id) p b → b ≡ newest_in id cs n → a ≡ newest_in id ds m
-  newest-added id a b p next e f =
+  pub newest_added : (id a b p : ℕ) → p ≡ n + 1 → a ≡ cond (eqb c.list id) p b → b ≡ newest_in id cs n → a ≡ newest_in id ds m
+  newest_added id a b p next e f =
       e ∙ ap (λ z. cond (eqb c.list id) z b) next ∙ ap (λ z. cond (eqb c.list id) (n + 1) z) f ∙ sym (rw (items, more) (newest_push id cs c n (sym long)))
 
-  pub linked-added : (bs es : List ℕ) (b : ℕ) → n ≡ length bs → es ≡ bs ++ b ∷ [] → b ≡ newest_in c.list cs n
+  pub linked_added : (bs es : List ℕ) (b : ℕ) → n ≡ length bs → es ≡ bs ++ b ∷ [] → b ≡ newest_in c.list cs n
       → ((i : ℕ) → i < n → get_or bs i 0 ≡ newest_in (list_at cs i) cs i)
       → (i : ℕ) → i < m → get_or es i 0 ≡ newest_in (list_at ds i) ds i
-  linked-added bs es b size is e f i h = elim (cases_lt i n) [
+  linked_added bs es b size is e f i h = elim (cases_lt i n) [
     | inl l ↦
         let p : list_at (cs ++ c ∷ []) i ≡ list_at cs i = ap (λ x. x.list) (get_or_append_left cs (c ∷ []) no_change i (omega arith)) in
         let q = newest_earlier (list_at cs i) cs c i (omega arith) in
@@ -194,27 +194,27 @@ module _ (cs ds : List Change) (c : Change) (n m : ℕ) (long : n ≡ length cs)
         rw (is, items, z, p, q) (get_or_push bs b 0 n (sym size) ∙ e)
   ]
 
-  added-at : (i : ℕ) → i < m → ((i < n) × (transaction_at ds i ≡ transaction_at cs i)) ⊎ ((i ≡ n) × (transaction_at ds i ≡ c.transaction))
-  added-at i h = elim (cases_lt i n) [
+  added_at : (i : ℕ) → i < m → ((i < n) × (transaction_at ds i ≡ transaction_at cs i)) ⊎ ((i ≡ n) × (transaction_at ds i ≡ c.transaction))
+  added_at i h = elim (cases_lt i n) [
     | inl l ↦ inl (l, rw items (ap (λ x. x.transaction) (get_or_append_left cs (c ∷ []) no_change i (omega arith))))
     | inr l ↦ let z : i ≡ n = omega arith in inr (z, rw (items, z) (ap (λ x. x.transaction) (get_or_push cs c no_change n (sym long))))
   ]
 
   module _ (last : ℕ) (is : c.transaction ≡ last) (early : (i : ℕ) → i < n → transaction_at cs i ≤ last) where
-    pub early-added : (i : ℕ) → i < m → transaction_at ds i ≤ last
-    early-added i h = elim (added-at i h) [
+    pub early_added : (i : ℕ) → i < m → transaction_at ds i ≤ last
+    early_added i h = elim (added_at i h) [
       | inl (l, e) ↦ omega (arith, early i l)
       | inr (z, e) ↦ omega arith
     ]
 
-    pub steady-added : ((i j : ℕ) → (i < j) × (j < n) → transaction_at cs i ≤ transaction_at cs j) → (i j : ℕ) → (i < j) × (j < m) → transaction_at ds i ≤ transaction_at ds j
-    steady-added f i j (h, l) = elim (added-at j l) [
-      | inl (p, e) ↦ elim (added-at i (omega arith)) [
+    pub steady_added : ((i j : ℕ) → (i < j) × (j < n) → transaction_at cs i ≤ transaction_at cs j) → (i j : ℕ) → (i < j) × (j < m) → transaction_at ds i ≤ transaction_at ds j
+    steady_added f i j (h, l) = elim (added_at j l) [
+      | inl (p, e) ↦ elim (added_at i (omega arith)) [
         | inl (q, d) ↦ omega (arith, f i j (h, p))
         | inr (q, d) ↦ absurd (omega arith)
       ]
-      | inr (p, e) ↦ omega (arith, early-added i (omega arith))
+      | inr (p, e) ↦ omega (arith, early_added i (omega arith))
     ]
 
-  pub most-added : (a b : ℕ) → a ≡ max b c.list → b ≡ noted_most cs → a ≡ noted_most ds
-  most-added a b e f = e ∙ ap (λ z. max z c.list) f ∙ sym (ap noted_most items ∙ most_push cs c)
+  pub most_added : (a b : ℕ) → a ≡ max b c.list → b ≡ noted_most cs → a ≡ noted_most ds
+  most_added a b e f = e ∙ ap (λ z. max z c.list) f ∙ sym (ap noted_most items ∙ most_push cs c)

@@ -29,13 +29,13 @@ module _ (s : Scheme) (r : ℕ) (bs : List ℕ) (i : ℕ) where
   run_none h = at_drop_all (run s r) bs i h
 
   -- a byte is left
-  pub run-one : i < length bs → run s r (drop i bs) ≡ run s (fed s r (get_or bs i 0)) (drop (i + 1) bs)
+  pub run_one : i < length bs → run s r (drop i bs) ≡ run s (fed s r (get_or bs i 0)) (drop (i + 1) bs)
   unfolding run
-  run-one h = at_drop_more (run s r) bs i 0 h
+  run_one h = at_drop_more (run s r) bs i 0 h
 
   -- eight bytes are left
-  pub run-turn : i + 8 ≤ length bs → run s r (drop i bs) ≡ run s (run s r (next_eight bs i)) (drop (i + 8) bs)
-  run-turn h =
+  pub run_turn : i + 8 ≤ length bs → run s r (drop i bs) ≡ run s (run s r (next_eight bs i)) (drop (i + 8) bs)
+  run_turn h =
       let more : (k : ℕ) → k < 8 → drop (i + k) bs ≡ get_or bs (i + k) 0 ∷ drop (i + (k + 1)) bs = λ k l. drop_more bs (i + k) 0 (omega arith) ∙ rw add_assoc in
       let split : drop i bs ≡ next_eight bs i ++ drop (i + 8) bs
       = rw (drop_more bs i 0 (omega arith), more 1 (omega arith), more 2 (omega arith), more 3 (omega arith), more 4 (omega arith), more 5 (omega arith), more 6 (omega arith), more 7 (omega arith)) in

@@ -120,12 +120,12 @@ scanned_err b end fs left list stop from k place h r p (Err y) i w l o e f d g t
     let on : nodes_at (left - k - 1) b list stop (place + size_bits (le 4 b place)) (w.nodes ++ (node_at b place ∷ [])) ≡ done p
     = sym (walk_on (left - k) b list stop place w.nodes (omega arith) o good) ∙ sym w.goes ∙ q in
     let (rest, z) = extends (left - k - 1) b list stop (place + size_bits (le 4 b place)) (w.nodes ++ (node_at b place ∷ [])) p on in
-    ap (λ ns. told_by (data_checks end fs list (referring 1 ns))) z ∙ told-all end fs list w.nodes m rest (list_told y) w.none
+    ap (λ ns. told_by (data_checks end fs list (referring 1 ns))) z ∙ told_all end fs list w.nodes m rest (list_told y) w.none
     (ap told_by (sym (same_checks end fs list place h r b e f)) ∙ t ∙ ap (λ v. Some (list_told v)) (sym g))
   where
-    told-all : (end : ℕ) (fs : List Span) (id : ℕ) (ns : List Node) (m : Node) (rest : List Node) (f : Fault) → told_by (data_checks end fs id (referring 1 ns)) ≡ None
+    told_all : (end : ℕ) (fs : List Span) (id : ℕ) (ns : List Node) (m : Node) (rest : List Node) (f : Fault) → told_by (data_checks end fs id (referring 1 ns)) ≡ None
         → told_by (node_checks end fs id m.place m.base m.reference) ≡ Some f → told_by (data_checks end fs id (referring 1 ((ns ++ (m ∷ [])) ++ rest))) ≡ Some f
-    told-all end fs id ns m rest f a c =
+    told_all end fs id ns m rest f a c =
         ap (λ xs. told_by (data_checks end fs id xs)) (referring_both 1 (ns ++ (m ∷ [])) rest) ∙ ap told_by (data_both end fs id (referring 1 (ns ++ (m ∷ []))) (referring 1 rest))
         ∙ told_more (data_checks end fs id (referring 1 (ns ++ (m ∷ [])))) (data_checks end fs id (referring 1 rest)) f
         (ap told_by (data_more end fs id ns m) ∙ told_on (data_checks end fs id (referring 1 ns)) (node_checks end fs id m.place m.base m.reference) a ∙ c)

@@ -79,14 +79,14 @@ grown_more u (fresh e) f h = fresh (rw f e)
 
 -- the old fragment's terminator and next reference
 module _ {s : Section} {a b : ℕ} {t : Tail} (x : TailHeld s a t) (h : a ≤ b) where
-  steps-terminator : t.free + 4 ≤ nodes_to t.fragment → Steps s b b (put t.free terminator ∷ [])
-  steps-terminator k =
+  steps_terminator : t.free + 4 ≤ nodes_to t.fragment → Steps s b b (put t.free terminator ∷ [])
+  steps_terminator k =
       let n = length_digits 4 0x800010FF in
       steps_within t.free terminator (omega arith) (digits_bytes 4 0x800010FF) (λ i u v. tail_free x.grown x.free_from i u (omega arith))
 
-  steps-close : Steps s b b (cond (leb (t.free + 4) (nodes_to t.fragment)) (put t.free terminator ∷ []) [])
-  steps-close =
-      let room = λ (e : leb (t.free + 4) (nodes_to t.fragment) ≡ true). steps-terminator (leb-true (t.free + 4) (nodes_to t.fragment) e) in
+  steps_close : Steps s b b (cond (leb (t.free + 4) (nodes_to t.fragment)) (put t.free terminator ∷ []) [])
+  steps_close =
+      let room = λ (e : leb (t.free + 4) (nodes_to t.fragment) ≡ true). steps_terminator (leb-true (t.free + 4) (nodes_to t.fragment) e) in
       cond_both (leb (t.free + 4) (nodes_to t.fragment)) (put t.free terminator ∷ []) [] (Steps s b b) room (λ e. steps_none)
 
   steps_next : (r : Span) → Steps s b b (put (nodes_to t.fragment) (span_bytes r) ∷ [])
@@ -98,8 +98,8 @@ module _ {s : Section} {a b : ℕ} {t : Tail} (x : TailHeld s a t) (h : a ≤ b)
 
 module _ {s : Section} {y : Layout} (d : DraftHeld s y) (id : ℕ) (new : List ℕ) (bytes : Bytes new) (t : Tail) (x : TailHeld s y.end t) where
   -- behind the last node
-  kept-fitting : t.free + length new ≤ nodes_to t.fragment → Kept s y (fitting y id new t)
-  kept-fitting k =
+  kept_fitting : t.free + length new ≤ nodes_to t.fragment → Kept s y (fitting y id new t)
+  kept_fitting k =
       let u : Tail = tail id t.fragment t.number (t.free + length new) (t.count + 1) in
       let held : TailHeld s y.end u
       = record { grown = grown_more u x.grown refl (omega arith); size = x.size; to = x.to; free_from = omega arith; free_to = omega arith } in
@@ -109,20 +109,20 @@ module _ {s : Section} {y : Layout} (d : DraftHeld s y) (id : ℕ) (new : List �
       }
 
   -- in a new fragment
-  kept-spilling : length new ≤ 988 → Kept s y (spilling y id new t)
-  kept-spilling small =
+  kept_spilling : length new ≤ 988 → Kept s y (spilling y id new t)
+  kept_spilling small =
       let f = span y.end 1024 in
-      let new-piece = new_fragment id (t.number + 1) new in
+      let new_piece = new_fragment id (t.number + 1) new in
       let z = length_new_fragment id (t.number + 1) new small in
-      let p = piece_ends y new-piece in
-      let end = behind (at_end y new-piece) in
+      let p = piece_ends y new_piece in
+      let end = behind (at_end y new_piece) in
       let q : y.end + 1024 ≤ end = omega arith in
       let u : Tail = tail id f (t.number + 1) (nodes_from f + length new) (t.count + 1) in
       let held : TailHeld s end u = record { grown = fresh d.end; size = omega arith; to = q; free_from = omega arith; free_to = omega arith } in
-      let close : Steps s end end _ = steps_append (steps-close x (omega arith)) (steps_next x (omega arith) f) in
+      let close : Steps s end end _ = steps_append (steps_close x (omega arith)) (steps_next x (omega arith) f) in
       record {
         held = record { end = omega arith; tails = tails_with (TailHeld s end) u y.tails held (tails_later s y.end end y.tails (omega arith) d.tails) };
-        steps = steps_append (steps_at_end y new-piece d.end (fragment_bytes id (t.number + 1) new bytes)) close;
+        steps = steps_append (steps_at_end y new_piece d.end (fragment_bytes id (t.number + 1) new bytes)) close;
       }
 
 kept_node : {s : Section} {y : Layout} (id : ℕ) (new : List ℕ) → DraftHeld s y → member id (map (λ t. t.id) y.tails) ≡ true → length new ≤ 988 → Bytes new
@@ -130,8 +130,8 @@ kept_node : {s : Section} {y : Layout} (id : ℕ) (new : List ℕ) → DraftHeld
 kept_node {s} {y} id new d m small bytes =
     let t = find_tail y.tails id in
     let x = find_held (TailHeld s y.end) y.tails id d.tails m in
-    let fits = λ (e : leb (t.free + length new) (nodes_to t.fragment) ≡ true). kept-fitting d id new bytes t x (leb-true (t.free + length new) (nodes_to t.fragment) e) in
-    cond_both (leb (t.free + length new) (nodes_to t.fragment)) (fitting y id new t) (spilling y id new t) (Kept s y) fits (λ e. kept-spilling d id new bytes t x small)
+    let fits = λ (e : leb (t.free + length new) (nodes_to t.fragment) ≡ true). kept_fitting d id new bytes t x (leb-true (t.free + length new) (nodes_to t.fragment) e) in
+    cond_both (leb (t.free + length new) (nodes_to t.fragment)) (fitting y id new t) (spilling y id new t) (Kept s y) fits (λ e. kept_spilling d id new bytes t x small)
 
 -- ---- adds
 
@@ -147,9 +147,9 @@ held_list : {s : Section} {y : Layout} (parent made end size : ℕ) → DraftHel
 held_list {s} {y} parent made end size d small h =
     let f = span y.end 1024 in
     let t : Tail = tail made f 0 (nodes_from f + size) 1 in
-    let old-tails = tails_later s y.end end y.tails (omega arith) d.tails in
+    let old_tails = tails_later s y.end end y.tails (omega arith) d.tails in
     let held : TailHeld s end t = record { grown = fresh d.end; size = omega arith; to = h; free_from = omega arith; free_to = omega arith } in
-    record { end = omega arith; tails = All-append (TailHeld s end) y.tails (t ∷ []) old-tails (held, tt) }
+    record { end = omega arith; tails = All-append (TailHeld s end) y.tails (t ∷ []) old_tails (held, tt) }
 
 -- ADD: one that passes its checks keeps what is known of the draft, and writes to the free zone
 pub kept_planned : {s : Section} {y : Layout} (ceiling : ℕ) (a : Add) → DraftHeld s y → FitAdd a → Clean (add_checks ceiling y a) → Kept s y (planned y a)
@@ -165,18 +165,18 @@ kept_planned {s} {y} ceiling (with_data list id payload content) d fit p =
     let z = length_referring id 1 r payload in
     let first = steps_at_end {s = s} y content d.end fit.1 in
     kept_after first (kept_node list node (held_later _ d (omega arith)) (grind (arith, nat_tests)) (omega arith) (referring_bytes id 1 r payload fit.0))
-kept_planned {s} {y} ceiling (branch list id payload first-id first-payload) d fit p =
+kept_planned {s} {y} ceiling (branch list id payload first_id first_payload) d fit p =
     let r = span y.end 1024 in
     let made = y.highest + 1 in
-    let first-node = plain_node first-id first-payload in
+    let first_node = plain_node first_id first_payload in
     let k : 16 + length payload ≤ 988 = grind (arith, nat_tests) in
-    let f : 4 + length first-payload ≤ 988 = grind (arith, nat_tests) in
-    let g : length first-node ≤ 988 = omega (arith, length_plain first-id first-payload) in
-    let new-piece = new_fragment made 0 first-node in
-    let z = length_new_fragment made 0 first-node g in
-    let q = piece_ends y new-piece in
+    let f : 4 + length first_payload ≤ 988 = grind (arith, nat_tests) in
+    let g : length first_node ≤ 988 = omega (arith, length_plain first_id first_payload) in
+    let new_piece = new_fragment made 0 first_node in
+    let z = length_new_fragment made 0 first_node g in
+    let q = piece_ends y new_piece in
     let n = length_referring id 2 r payload in
     let m : member list (map (λ t. t.id) y.tails) ≡ true = grind (arith, nat_tests) in
-    let first = steps_at_end {s = s} y new-piece d.end (fragment_bytes made 0 first-node (plain_bytes first-id first-payload fit.1)) in
-    let held = held_list list made (behind (at_end y new-piece)) (length first-node) d g (omega arith) in
+    let first = steps_at_end {s = s} y new_piece d.end (fragment_bytes made 0 first_node (plain_bytes first_id first_payload fit.1)) in
+    let held = held_list list made (behind (at_end y new_piece)) (length first_node) d g (omega arith) in
     kept_after first (kept_node list (referring_node id 2 r payload) held (member_append list y.tails _ m) (omega arith) (referring_bytes id 2 r payload fit.0))

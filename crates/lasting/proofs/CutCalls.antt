@@ -15,11 +15,11 @@ use Rattle.model.specs.Contents.{held, saved, drafted}
 use Rattle.model.specs.Laws.{WritesFree, CommitsTo, CommitReads, LooksGrow, adds_of, Survives, CutsSurvive}
 use Rattle.meaning.proofs.Base.{Clean, all_front}
 use Rattle.lasting.proofs.Steps.{Steps}
-use Rattle.lasting.proofs.Untouched.{SameFile, not-header, cut-kept}
+use Rattle.lasting.proofs.Untouched.{SameFile, not_header, cut_kept}
 use Rattle.lasting.proofs.Effects.{open_state, Does, stays, rests, grows, ends}
-use Rattle.lasting.proofs.Opening.{opened-answer, opened-look, sees}
-use Rattle.lasting.proofs.InDraft.{drafted_bytes, Drafting, log_writes, last_write, committed_bytes, mid-same, mid-long, next-step, logs-step, logs_same, committing-is, committed-is, last-is-header}
-use Rattle.lasting.proofs.Sounds.{does-here, sound_drafting, of_sound}
+use Rattle.lasting.proofs.Opening.{opened_answer, opened_look, sees}
+use Rattle.lasting.proofs.InDraft.{drafted_bytes, Drafting, log_writes, last_write, committed_bytes, mid_same, mid_long, next_step, logs_step, logs_same, committing_is, committed_is, last_is_header}
+use Rattle.lasting.proofs.Sounds.{does_here, sound_drafting, of_sound}
 
 -- ---- lists
 
@@ -67,18 +67,18 @@ module _ {ceiling : ℕ} {b : List ℕ} {s : Section} (d : Access) (x : Drafting
   here = open_state ceiling mid d
 
   -- looks after opening t are looks here, if they are looks over the bytes here
-  looks-here : (t : List ℕ) (section : Section) → opened t ≡ done section → (mark k : ℕ) → ((l : Look) → looks_to l ≡ k → look t l ≡ look mid l)
+  looks_here : (t : List ℕ) (section : Section) → opened t ≡ done section → (mark k : ℕ) → ((l : Look) → looks_to l ≡ k → look t l ≡ look mid l)
       → LookAlike k (after (shut t ceiling) (open_file mark)) here
-  looks-here t section o mark k h l q = opened-look t section o ceiling mark l ∙ ap saw (h l q) ∙ sym (sees ceiling mid d l)
+  looks_here t section o mark k h l q = opened_look t section o ceiling mark l ∙ ap saw (h l q) ∙ sym (sees ceiling mid d l)
 
   -- a cut that leaves the finished file
   unharmed : (c : Call) {z : List ℕ} {w : Write} {t : List ℕ} (cut : Cut z w t) → raised c cut ≡ 0 → SameFile mid t s → (mark : ℕ)
       → Survives here s.header.count ceiling c cut mark
   unharmed c {z} {w} {t} cut r f mark = record {
     section = s;
-    opens = opened-answer t s f.opens ceiling mark;
+    opens = opened_answer t s f.opens ceiling mark;
     count = omega (arith, r);
-    looks = λ k one h. looks-here t s f.opens mark k (λ l q. f.looks l);
+    looks = λ k one h. looks_here t s f.opens mark k (λ l q. f.looks l);
     grown = λ q. absurd (omega (arith, q, r));
   }
 
@@ -86,56 +86,56 @@ module _ {ceiling : ℕ} {b : List ℕ} {s : Section} (d : Access) (x : Drafting
   cut_step : (c : Call) (to : ℕ) (ws before later : List Write) (w : Write) → Steps s (layout s adds).end to ws → ws ≡ before ++ (w ∷ later)
       → (t : List ℕ) (cut : Cut (applied mid before) w t) → ((WritesHeader w → ⊥) → raised c cut ≡ 0) → (mark : ℕ) → Survives here s.header.count ceiling c cut mark
   cut_step c to ws before later w st e t cut r mark =
-      let opens = (mid-same x).opens in
+      let opens = (mid_same x).opens in
       let split = subst (Steps s (layout s adds).end to) e st in
       let (y, z) = all_front (WritesFree s) before (w ∷ later) split.free in
-      unharmed c cut (r (not-header mid s opens w z.0)) (cut-kept mid s opens (layout s adds).end to (mid-long x) before later w t split cut) mark
+      unharmed c cut (r (not_header mid s opens w z.0)) (cut_kept mid s opens (layout s adds).end to (mid_long x) before later w t split cut) mark
 
   module _ (reads : CommitReads) (grow : LooksGrow) where
     module _ (token : Draft) (guid : List ℕ) (gb : Bytes guid) (gl : length guid ≡ 16) (p : Clean (commit_checks ceiling s adds guid)) where
       -- the new header stands
-      grown-by : (c : Call) {z : List ℕ} {w : Write} {t : List ℕ} (cut : Cut z w t) → raised c cut ≡ 1 → t ≡ committed_bytes b s adds guid → (mark : ℕ)
+      grown_by : (c : Call) {z : List ℕ} {w : Write} {t : List ℕ} (cut : Cut z w t) → raised c cut ≡ 1 → t ≡ committed_bytes b s adds guid → (mark : ℕ)
           → Survives here s.header.count ceiling c cut mark
-      grown-by c {z} {w} {t} cut r e mark =
+      grown_by c {z} {w} {t} cut r e mark =
           let k : CommitsTo b s adds (committed_bytes b s adds guid) guid = reads b ceiling s adds guid x.are_bytes gb gl x.opens x.dones p in
           let o : opened t ≡ done k.section = ap opened e ∙ k.opens in
           record {
             section = k.section;
-            opens = opened-answer t k.section o ceiling mark;
+            opens = opened_answer t k.section o ceiling mark;
             count = k.count ∙ ap (λ n. s.header.count + n) (sym r);
-            looks = λ i one h. looks-here t k.section o mark i (λ l q.
-                ap (λ y. look y l) e ∙ grow b ceiling s adds guid x.are_bytes gb gl x.opens x.dones p l (omega arith) (omega arith) ∙ sym ((mid-same x).looks l));
+            looks = λ i one h. looks_here t k.section o mark i (λ l q.
+                ap (λ y. look y l) e ∙ grow b ceiling s adds guid x.are_bytes gb gl x.opens x.dones p l (omega arith) (omega arith) ∙ sym ((mid_same x).looks l));
             grown = λ q id.
-                ap (λ y. held y id) e ∙ k.grown id ∙ ap (λ ns. ns ++ saved (blank s) adds id) (sym ((mid-same x).holds id))
-                ∙ ap (λ ns. held mid id ++ ns) (sym (drafted_is ceiling mid s d.mark d.begins d.draft id (mid-same x).opens));
+                ap (λ y. held y id) e ∙ k.grown id ∙ ap (λ ns. ns ++ saved (blank s) adds id) (sym ((mid_same x).holds id))
+                ∙ ap (λ ns. held mid id ++ ns) (sym (drafted_is ceiling mid s d.mark d.begins d.draft id (mid_same x).opens));
           }
 
       -- a cut in the header's write
-      cut-header : (z : List ℕ) (w : Write) (t : List ℕ) → z ≡ applied mid (log_writes s adds) → w ≡ last_write b s adds guid
+      cut_header : (z : List ℕ) (w : Write) (t : List ℕ) → z ≡ applied mid (log_writes s adds) → w ≡ last_write b s adds guid
           → (cut : Cut z w t) (mark : ℕ) → Survives here s.header.count ceiling (commit token guid) cut mark
-      cut-header z w t q r (old_header k) mark = unharmed (commit token guid) (old_header k) refl (subst (λ y. SameFile mid y s) (sym q) (logs_same x)) mark
-      cut-header z w t q r (new_header k) mark =
+      cut_header z w t q r (old_header k) mark = unharmed (commit token guid) (old_header k) refl (subst (λ y. SameFile mid y s) (sym q) (logs_same x)) mark
+      cut_header z w t q r (new_header k) mark =
           let e : written z w.place w.new ≡ written (applied mid (log_writes s adds)) 0 (last_write b s adds guid).new = cc in
-          grown-by (commit token guid) (new_header k) refl (e ∙ sym (committed-is x guid)) mark
-      cut-header z w t q r (torn k c d e f) mark = absurd (k (subst WritesHeader (sym r) (last-is-header x guid gb gl)))
+          grown_by (commit token guid) (new_header k) refl (e ∙ sym (committed_is x guid)) mark
+      cut_header z w t q r (torn k c d e f) mark = absurd (k (subst WritesHeader (sym r) (last_is_header x guid gb gl)))
 
     survives : (c : Call) (o : Outcome Effect) → Does ceiling mid s d c o → (before later : List Write) (w : Write) → writes_of o ≡ before ++ (w ∷ later)
         → (t : List ℕ) (cut : Cut (applied mid before) w t) (mark : ℕ) → Survives here s.header.count ceiling c cut mark
     survives c o (stays i j k) before later w e t cut mark = absurd (never_empty before w later (sym j ∙ e))
     survives c o (rests a n draft i j) before later w e t cut mark = absurd (never_empty before w later e)
     survives c o (grows token a y i fit p) before later w e t cut mark =
-        cut_step (add token a) (planned (layout s adds) a).layout.end (planned (layout s adds) a).writes before later w (next-step x a fit p) e t cut (λ h. refl) mark
+        cut_step (add token a) (planned (layout s adds) a).layout.end (planned (layout s adds) a).writes before later w (next_step x a fit p) e t cut (λ h. refl) mark
     survives c o (ends token guid gb gl p) before later w e t cut mark =
         let raises = λ (h : WritesHeader w → ⊥). not_raised token guid (applied mid before) w t h cut in
-        elim (at_last (log_writes s adds) (last_write b s adds guid) before w later (sym (committing-is x guid) ∙ e)) [
-          | inl (q, r) ↦ cut-header token guid gb gl p (applied mid before) w t (ap (applied mid) q) r cut mark
-          | inr (rest, q) ↦ cut_step (commit token guid) (logged s (layout s adds)).end (log_writes s adds) before rest w (logs-step x) q t cut raises mark
+        elim (at_last (log_writes s adds) (last_write b s adds guid) before w later (sym (committing_is x guid) ∙ e)) [
+          | inl (q, r) ↦ cut_header token guid gb gl p (applied mid before) w t (ap (applied mid) q) r cut mark
+          | inr (rest, q) ↦ cut_step (commit token guid) (logged s (layout s adds)).end (log_writes s adds) before rest w (logs_step x) q t cut raises mark
         ]
 
-    survives-here : (c : Call) → Fit c → (before later : List Write) (w : Write) → writes here c ≡ before ++ (w ∷ later)
+    survives_here : (c : Call) → Fit c → (before later : List Write) (w : Write) → writes here c ≡ before ++ (w ∷ later)
         → (t : List ℕ) (cut : Cut (applied mid before) w t) (mark : ℕ) → Survives here s.header.count ceiling c cut mark
     unfolding writes
-    survives-here c fit = survives c (effect here c) (does-here d x c fit)
+    survives_here c fit = survives c (effect here c) (does_here d x c fit)
 
 -- every cut in the call c
 abbrev EachCut : Call → ℕ → State → ℕ → Type 0
@@ -143,4 +143,4 @@ EachCut c ceiling st n = (before later : List Write) (w : Write) → writes st c
     → (t : List ℕ) (cut : Cut (applied st.bytes before) w t) (mark : ℕ) → Survives st n ceiling c cut mark
 
 pub cuts_survive : CommitReads → LooksGrow → CutsSurvive
-cuts_survive reads grow st n ceiling c k fit = of_sound (EachCut c ceiling) k (survives-here k.access (sound_drafting k) reads grow c fit)
+cuts_survive reads grow st n ceiling c k fit = of_sound (EachCut c ceiling) k (survives_here k.access (sound_drafting k) reads grow c fit)

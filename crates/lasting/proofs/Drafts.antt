@@ -20,7 +20,7 @@ use Rattle.model.specs.Journal.{FitAdd}
 use Rattle.model.specs.Laws.{in_log, last_fragment, WritesFree, DoneAdds, add_writes, DraftsWriteFree}
 use Rattle.meaning.proofs.Base.{Clean}
 use Rattle.meaning.proofs.Members.{In, all_from_in}
-use Rattle.lasting.proofs.Places.{meant, LogEnd, list-end, log-end}
+use Rattle.lasting.proofs.Places.{meant, LogEnd, list_end, log_end}
 use Rattle.commits.proofs.Sizes.{length_span_bytes, length_entry_bytes}
 use Rattle.commits.proofs.Sums.{entries_bytes}
 use Rattle.lasting.proofs.Sizes.{piece_ends, span_bytes_bytes, log_fragment_bytes}
@@ -95,34 +95,34 @@ steps_logged s y g d =
 -- ---- over an accepted file
 
 module _ (b : List ℕ) (s : Section) (opens : opened b ≡ done s) where
-  held-tail : (l : NodeList) → In l s.lists → TailHeld s s.header.end (tail_of l)
-  held-tail l i =
-      let e = list-end (meant b s opens) l i in
+  held_tail : (l : NodeList) → In l s.lists → TailHeld s s.header.end (tail_of l)
+  held_tail l i =
+      let e = list_end (meant b s opens) l i in
       let from = e.free_from in
       record { grown = old l i refl (omega arith); size = e.size; to = e.to; free_from = omega arith; free_to = e.free_to }
 
-  held-blank : DraftHeld s (blank s)
-  held-blank = record {
+  held_blank : DraftHeld s (blank s)
+  held_blank = record {
     end = omega arith;
-    tails = All-map (TailHeld s s.header.end) tail_of s.lists (all_from_in (λ l. TailHeld s s.header.end (tail_of l)) s.lists held-tail);
+    tails = All-map (TailHeld s s.header.end) tail_of s.lists (all_from_in (λ l. TailHeld s s.header.end (tail_of l)) s.lists held_tail);
   }
 
   module _ (ceiling : ℕ) (adds : List Add) (dones : DoneAdds ceiling (blank s) adds) where
     -- the adds of a draft
-    pub adds-step : Steps s s.header.end (layout s adds).end (add_writes (blank s) adds)
-    adds-step = (laid_kept ceiling adds held-blank dones).steps
+    pub adds_step : Steps s s.header.end (layout s adds).end (add_writes (blank s) adds)
+    adds_step = (laid_kept ceiling adds held_blank dones).steps
 
     -- one more
     pub add_step : (a : Add) → FitAdd a → Clean (add_checks ceiling (layout s adds) a)
         → Steps s (layout s adds).end (planned (layout s adds) a).layout.end (planned (layout s adds) a).writes
-    add_step a fit c = (kept_planned ceiling a (laid_kept ceiling adds held-blank dones).held fit c).steps
+    add_step a fit c = (kept_planned ceiling a (laid_kept ceiling adds held_blank dones).held fit c).steps
 
     -- and commit, up to the header's write
     pub log_step : Steps s (layout s adds).end (logged s (layout s adds)).end (logged s (layout s adds)).writes
-    log_step = steps_logged s (layout s adds) (log-end (meant b s opens)) adds-step.rises
+    log_step = steps_logged s (layout s adds) (log_end (meant b s opens)) adds_step.rises
 
 pub drafts_write_free : DraftsWriteFree
 drafts_write_free b ceiling s adds bytes opens dones =
-    let one = adds-step b s opens ceiling adds dones in
+    let one = adds_step b s opens ceiling adds dones in
     let two = log_step b s opens ceiling adds dones in
     All-append (WritesFree s) (add_writes (blank s) adds) (logged s (layout s adds)).writes one.free two.free

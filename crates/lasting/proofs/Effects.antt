@@ -40,7 +40,7 @@ pub data Does (ceiling : ℕ) (b : List ℕ) (s : Section) (d : Access) : Call �
 not_committed : (y : Layout) (a : Add) → commits (add_answer y a) ≡ 0
 not_committed y (plain list id payload) = refl
 not_committed y (with_data list id payload content) = refl
-not_committed y (branch list id payload first-id first-payload) = refl
+not_committed y (branch list id payload first_id first_payload) = refl
 
 module _ (ceiling : ℕ) (b : List ℕ) (s : Section) (opens : opened b ≡ done s) (mark begins : ℕ) where
   abbrev known : Option (List Add) → Access
@@ -53,26 +53,26 @@ module _ (ceiling : ℕ) (b : List ℕ) (s : Section) (opens : opened b ≡ done
   foreign : Draft → List Check
   foreign token = (not (eqb token.mark mark) || not (eqb token.number begins), saving 16) ∷ []
 
-  does-begin : (draft : Option (List Add)) → Does ceiling b s (known draft) begin (effect (open_state ceiling b (known draft)) begin)
-  does-begin (Some adds) = refuses (Some adds) begin (saving 14)
-  does-begin None =
+  does_begin : (draft : Option (List Add)) → Does ceiling b s (known draft) begin (effect (open_state ceiling b (known draft)) begin)
+  does_begin (Some adds) = refuses (Some adds) begin (saving 14)
+  does_begin None =
       let x = begun (record { mark = mark; number = begins + 1 }) in
       let e : Effect = record { answer = x; writes = []; access = access_of mark (begins + 1) (Some []) } in
       let rest = λ (p : Clean ((leb (2 ^ 64) (begins + 1), saving 23) ∷ [])). rests x (begins + 1) (Some []) refl refl in
       unless_either ((leb (2 ^ 64) (begins + 1), saving 23) ∷ []) (done e) (Does ceiling b s (known None) begin) (refuses None begin) rest
 
-  does-abandon : (draft : Option (List Add)) (token : Draft) → Does ceiling b s (known draft) (abandon token) (effect (open_state ceiling b (known draft)) (abandon token))
+  does_abandon : (draft : Option (List Add)) (token : Draft) → Does ceiling b s (known draft) (abandon token) (effect (open_state ceiling b (known draft)) (abandon token))
   unfolding foreign
-  does-abandon None token = refuses None (abandon token) (saving 16)
-  does-abandon (Some adds) token =
+  does_abandon None token = refuses None (abandon token) (saving 16)
+  does_abandon (Some adds) token =
       let P : Outcome Effect → Type 0 = Does ceiling b s (known (Some adds)) (abandon token) in
       let e : Effect = record { answer = abandoned; writes = []; access = access_of mark begins None } in
       unless_either (foreign token) (done e) P (refuses (Some adds) (abandon token)) (λ p. rests abandoned begins None refl refl)
 
-  does-add : (draft : Option (List Add)) (token : Draft) (a : Add) → FitAdd a → Does ceiling b s (known draft) (add token a) (effect (open_state ceiling b (known draft)) (add token a))
+  does_add : (draft : Option (List Add)) (token : Draft) (a : Add) → FitAdd a → Does ceiling b s (known draft) (add token a) (effect (open_state ceiling b (known draft)) (add token a))
   unfolding foreign
-  does-add None token a fit = refuses None (add token a) (saving 16)
-  does-add (Some adds) token a fit =
+  does_add None token a fit = refuses None (add token a) (saving 16)
+  does_add (Some adds) token a fit =
       let P : Outcome Effect → Type 0 = Does ceiling b s (known (Some adds)) (add token a) in
       let x : Section → Answer = λ z. add_answer (planned (layout z adds) a).layout a in
       let e : Section → Effect = λ z. record { answer = x z; writes = (planned (layout z adds) a).writes; access = access_of mark begins (Some (adds ++ (a ∷ []))) } in
@@ -82,11 +82,11 @@ module _ (ceiling : ℕ) (b : List ℕ) (s : Section) (opens : opened b ≡ done
       let own : P (then (opened b) k) = subst (λ o. P (then o k)) (sym opens) (unless_either (add_checks ceiling (layout s adds) a) (done (e s)) P refuse grow) in
       unless_either (foreign token) (then (opened b) k) P refuse (λ p. own)
 
-  does-commit : (draft : Option (List Add)) (token : Draft) (guid : List ℕ) → Bytes guid → length guid ≡ 16
+  does_commit : (draft : Option (List Add)) (token : Draft) (guid : List ℕ) → Bytes guid → length guid ≡ 16
       → Does ceiling b s (known draft) (commit token guid) (effect (open_state ceiling b (known draft)) (commit token guid))
   unfolding foreign
-  does-commit None token guid x y = refuses None (commit token guid) (saving 16)
-  does-commit (Some adds) token guid x y =
+  does_commit None token guid x y = refuses None (commit token guid) (saving 16)
+  does_commit (Some adds) token guid x y =
       let P : Outcome Effect → Type 0 = Does ceiling b s (known (Some adds)) (commit token guid) in
       let e : Section → Effect = λ z. record { answer = committed; writes = committing b z adds guid; access = access_of mark begins None } in
       let k : Section → Outcome Effect = λ z. unless (commit_checks ceiling z adds guid) (done (e z)) in
@@ -97,8 +97,8 @@ module _ (ceiling : ℕ) (b : List ℕ) (s : Section) (opens : opened b ≡ done
 
   pub does : (draft : Option (List Add)) (c : Call) → Fit c → Does ceiling b s (known draft) c (effect (open_state ceiling b (known draft)) c)
   does draft (open_file m) fit = refuses draft (open_file m) (saving 14)
-  does draft begin fit = does-begin draft
-  does draft (add token a) fit = does-add draft token a fit
-  does draft (commit token guid) fit = does-commit draft token guid fit.0 fit.1
-  does draft (abandon token) fit = does-abandon draft token
+  does draft begin fit = does_begin draft
+  does draft (add token a) fit = does_add draft token a fit
+  does draft (commit token guid) fit = does_commit draft token guid fit.0 fit.1
+  does draft (abandon token) fit = does_abandon draft token
   does draft (looking l) fit = stays refl refl refl

@@ -20,10 +20,10 @@ module _ (b : List ℕ) (h : Header) (end : ℕ) (guid : List ℕ) where
       ∷ put 0xE4 (digits 8 (h.generation + 1))
       ∷ []
 
-  pub header-bytes : Bytes b → Bytes guid → Bytes (header_write b h end guid).new
-  header-bytes x y =
+  pub header_bytes : Bytes b → Bytes guid → Bytes (header_write b h end guid).new
+  header_bytes x y =
       let each : All (λ w. Bytes w.new) changes = (digits_bytes 4 (h.count + 1), (digits_bytes 8 end, (y, (digits_bytes 8 (h.generation + 1), tt)))) in
       applied_bytes (take 512 b) changes (All-take (λ n. n < 256) 512 b x) each
 
-  pub writes-header : 1024 ≤ length b → length guid ≡ 16 → WritesHeader (header_write b h end guid)
-  writes-header l g = (refl, head_length b h end guid l g)
+  pub writes_header : 1024 ≤ length b → length guid ≡ 16 → WritesHeader (header_write b h end guid)
+  writes_header l g = (refl, head_length b h end guid l g)

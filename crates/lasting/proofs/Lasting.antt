@@ -21,28 +21,28 @@ start_sound j = opens_sound j.bytes j.ceiling j.mark j.section j.are_bytes j.bel
 -- k became the count no later than where it is no more than the count
 not_later : (j : Journal) (i k m : ℕ) → k ≤ count_after j i → Became j k m → m ≤ i
 not_later j i k m h b =
-    let no-later : i < m → ⊥ = λ x. (let y = b.1 i x in omega arith) in
+    let no_later : i < m → ⊥ = λ x. (let y = b.1 i x in omega arith) in
     omega arith
 
 module _ (reads : CommitReads) (grow : LooksGrow) where
-  line-sound : (s : State) (n ceiling : ℕ) (l : Line) (ls : List Line) → Sound s n ceiling → Follows s (l ∷ ls) → Sound l.state (n + commits l.answer) ceiling
-  line-sound s n ceiling l ls d f =
+  line_sound : (s : State) (n ceiling : ℕ) (l : Line) (ls : List Line) → Sound s n ceiling → Follows s (l ∷ ls) → Sound l.state (n + commits l.answer) ceiling
+  line_sound s n ceiling l ls d f =
       let x = (steps_sound reads grow s n ceiling l.call d f.0).0 in
       subst (λ a. Sound l.state (n + commits a) ceiling) (sym f.1) (subst (λ t. Sound t (n + commits (answer s l.call)) ceiling) (sym f.2) x)
 
-  line-looks : (s : State) (n ceiling : ℕ) (l : Line) (ls : List Line) → Sound s n ceiling → Follows s (l ∷ ls) → (k : ℕ) → 1 ≤ k → k ≤ n → LookAlike k l.state s
-  line-looks s n ceiling l ls d f k one h =
+  line_looks : (s : State) (n ceiling : ℕ) (l : Line) (ls : List Line) → Sound s n ceiling → Follows s (l ∷ ls) → (k : ℕ) → 1 ≤ k → k ≤ n → LookAlike k l.state s
+  line_looks s n ceiling l ls d f k one h =
       subst (λ t. LookAlike k t s) (sym f.2) ((steps_sound reads grow s n ceiling l.call d f.0).1 k one h)
 
   all_sound : (s : State) (n ceiling : ℕ) (ls : List Line) → Sound s n ceiling → Follows s ls → (i : ℕ) → Sound (state_after s (take i ls)) (n + commits_in (take i ls)) ceiling
   all_sound s n ceiling ls d f zero = rw add-zero d
   all_sound s n ceiling [] d f (suc i) = rw add-zero d
   all_sound s n ceiling (l ∷ ls) d f (suc i) =
-      let x = all_sound l.state (n + commits l.answer) ceiling ls (line-sound s n ceiling l ls d f) f.3 i in
+      let x = all_sound l.state (n + commits l.answer) ceiling ls (line_sound s n ceiling l ls d f) f.3 i in
       rw (← add_assoc n (commits l.answer) (commits_in (take i ls))) x
 
-  end-sound : (j : Journal) → Sound (end_state j) (end_count j) j.ceiling
-  end-sound j = all_sound (start j) j.section.header.count j.ceiling j.lines (start_sound j) j.follows (length j.lines)
+  end_sound : (j : Journal) → Sound (end_state j) (end_count j) j.ceiling
+  end_sound j = all_sound (start j) j.section.header.count j.ceiling j.lines (start_sound j) j.follows (length j.lines)
 
   -- from a line on, looks stand
   stand : (s : State) (n ceiling : ℕ) (ls : List Line) → Sound s n ceiling → Follows s ls → (m i k : ℕ) → m ≤ i → 1 ≤ k → k ≤ n + commits_in (take m ls)
@@ -53,29 +53,29 @@ module _ (reads : CommitReads) (grow : LooksGrow) where
   stand s n ceiling [] d f (suc m) (suc i) k le one h l e = refl
   stand s n ceiling (x ∷ ls) d f zero zero k le one h l e = refl
   stand s n ceiling (x ∷ ls) d f zero (suc i) k le one h l e =
-      stand x.state (n + commits x.answer) ceiling ls (line-sound s n ceiling x ls d f) f.3 zero i k (omega arith) one (omega arith) l e
-      ∙ line-looks s n ceiling x ls d f k one (omega arith) l e
+      stand x.state (n + commits x.answer) ceiling ls (line_sound s n ceiling x ls d f) f.3 zero i k (omega arith) one (omega arith) l e
+      ∙ line_looks s n ceiling x ls d f k one (omega arith) l e
   stand s n ceiling (x ∷ ls) d f (suc m) zero k le one h l e = absurd (omega arith)
   stand s n ceiling (x ∷ ls) d f (suc m) (suc i) k le one h l e =
-      stand x.state (n + commits x.answer) ceiling ls (line-sound s n ceiling x ls d f) f.3 m i k (omega arith) one (omega arith) l e
+      stand x.state (n + commits x.answer) ceiling ls (line_sound s n ceiling x ls d f) f.3 m i k (omega arith) one (omega arith) l e
 
-  looks-stand : (j : Journal) → LooksStand j
-  looks-stand j i k m inside one h b =
+  looks_stand : (j : Journal) → LooksStand j
+  looks_stand j i k m inside one h b =
       stand (start j) j.section.header.count j.ceiling j.lines (start_sound j) j.follows m i k (not_later j i k m h b) one b.0
 
-  cuts-reopen : (j : Journal) → CutsReopen j
-  cuts-reopen j c fit before later w e t cut mark =
-      let v = cuts_survive reads grow (end_state j) (end_count j) j.ceiling c (end-sound j) fit before later w e t cut mark in
+  cuts_reopen : (j : Journal) → CutsReopen j
+  cuts_reopen j c fit before later w e t cut mark =
+      let v = cuts_survive reads grow (end_state j) (end_count j) j.ceiling c (end_sound j) fit before later w e t cut mark in
       record {
         section = v.section;
         opens = v.opens;
         count = v.count;
-        looks = λ k m one h b l q. v.looks k one h l q ∙ looks-stand j (length j.lines) k m (omega arith) one h b l q;
+        looks = λ k m one h b l q. v.looks k one h l q ∙ looks_stand j (length j.lines) k m (omega arith) one h b l q;
         grown = v.grown;
       }
 
-  pub finished-states-last : FinishedStatesLast
-  finished-states-last j = (looks-stand j, cuts-reopen j)
+  pub finished_states_last : FinishedStatesLast
+  finished_states_last j = (looks_stand j, cuts_reopen j)
 
-  pub writes-taken : WritesTaken
-  writes-taken j c fit = sound_takes c (end-sound j) fit
+  pub writes_taken : WritesTaken
+  writes_taken j c fit = sound_takes c (end_sound j) fit

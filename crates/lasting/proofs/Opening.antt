@@ -41,14 +41,14 @@ opens_sound b ceiling mark section bytes below e =
 
 module _ (b : List ℕ) (s : Section) (opens : opened b ≡ done s) (ceiling mark : ℕ) where
   -- bytes that open as s are accepted as s
-  pub opened-answer : answer (shut b ceiling) (open_file mark) ≡ accepted s
+  pub opened_answer : answer (shut b ceiling) (open_file mark) ≡ accepted s
   unfolding answer
-  opened-answer = rw opens
+  opened_answer = rw opens
 
   -- and then looked at
-  pub opened-look : (l : Look) → answer (after (shut b ceiling) (open_file mark)) (looking l) ≡ saw (look b l)
+  pub opened_look : (l : Look) → answer (after (shut b ceiling) (open_file mark)) (looking l) ≡ saw (look b l)
   unfolding answer after writes applied
-  opened-look l = rw opens
+  opened_look l = rw opens
 
 -- a look at an opened file is one over its bytes
 pub sees : (ceiling : ℕ) (b : List ℕ) (d : Access) (l : Look) → answer (open_state ceiling b d) (looking l) ≡ saw (look b l)

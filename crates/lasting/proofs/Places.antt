@@ -42,8 +42,8 @@ module _ {b : List ℕ} {s : Section} (m : Means b s) where
   pub log_inside : (f : Span) → In f s.log.fragments → Inside 12 s.header.end f
   log_inside f j = all_in (Inside 12 s.header.end) s.log.fragments f m.log.part.inside j
 
-  pub list-end : (l : NodeList) → In l s.lists → ListEnd s l
-  list-end l i =
+  pub list_end : (l : NodeList) → In l s.lists → ListEnd s l
+  list_end l i =
       let st = all_in (Stands b s.header s.log) s.lists l m.lists i in
       let f = last_fragment l.fragments in
       let j = in_last_fragment l.fragments (spread_fragment b st.part.spread) in
@@ -56,8 +56,8 @@ module _ {b : List ℕ} {s : Section} (m : Means b s) where
         free_to = (spread_ends b s.header.end (span 0 0) st.part.spread st.part.inside).1;
       }
 
-  pub log-end : LogEnd s
-  log-end =
+  pub log_end : LogEnd s
+  log_end =
       let f = last_fragment s.log.fragments in
       let j = in_last_fragment s.log.fragments (log_some b s.header s.log m.log) in
       let (x, y) = log_inside f j in

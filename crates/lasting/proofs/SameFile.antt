@@ -17,15 +17,15 @@ use Rattle.commits.proofs.Around.{Kept}
 use Rattle.commits.proofs.PartKept.{EndsSame, numbered_same, kept_ends}
 use Rattle.commits.proofs.LogAdded.{LogAgree}
 use Rattle.commits.proofs.SameRow.{logs_agree, headed_same}
-use Rattle.lasting.proofs.Places.{ListEnd, list-end}
+use Rattle.lasting.proofs.Places.{ListEnd, list_end}
 
 module _ (b c : List ℕ) where
   -- ---- log
 
-  log-agree : (fs : List Span) (used : ℕ) → All (Kept b c) (but_last fs) → Same b c (last_fragment fs).start ((last_fragment fs).start + 8 * used) → LogAgree b c fs used
-  log-agree [] used a s = tt
-  log-agree (f ∷ []) used a s = s
-  log-agree (f ∷ (g ∷ gs)) used a s = (a.0, log-agree (g ∷ gs) used a.1 s)
+  log_agree : (fs : List Span) (used : ℕ) → All (Kept b c) (but_last fs) → Same b c (last_fragment fs).start ((last_fragment fs).start + 8 * used) → LogAgree b c fs used
+  log_agree [] used a s = tt
+  log_agree (f ∷ []) used a s = s
+  log_agree (f ∷ (g ∷ gs)) used a s = (a.0, log_agree (g ∷ gs) used a.1 s)
 
   -- ---- lists
 
@@ -67,18 +67,18 @@ module _ (b c : List ℕ) where
 
   -- ---- the whole
 
-  means-same : (s : Section) → s.header.end ≤ length c → ((i : ℕ) → Footprint s i → get_or c i 0 ≡ get_or b i 0) → Means b s → Means c s
-  means-same s n h m =
+  means_same : (s : Section) → s.header.end ≤ length c → ((i : ℕ) → Footprint s i → get_or c i 0 ≡ get_or b i 0) → Means b s → Means c s
+  means_same s n h m =
       let stored = m.header.stored in
       let logs : All (Kept b c) (log_footprint s.log)
       = all_from_in (Kept b c) (log_footprint s.log) (λ r j i x y. sym (h i (in_log (has_from_in (log_footprint s.log) r j) (x, y)))) in
       let list : (l : NodeList) → In l s.lists → All (Kept b c) (list_footprint l)
       = λ l j. all_from_in (Kept b c) (list_footprint l) (λ r k i x y. sym (h i (in_list (has_from_in s.lists l j) (has_from_in (list_footprint l) r k) (x, y)))) in
       let stands : (l : NodeList) → In l s.lists → Stands c s.header s.log l
-      = λ l j. stands_same s l stored n (list-end m l j) (list l j) (all_in (Stands b s.header s.log) s.lists l m.lists j) in
+      = λ l j. stands_same s l stored n (list_end m l j) (list l j) (all_in (Stands b s.header s.log) s.lists l m.lists j) in
       record {
         header = headed_same b c s.header (λ i l k. sym (h i (in_header (l, k)))) n m.header;
-        log = logs_agree b c s.header s.log (log-agree s.log.fragments s.log.used logs.1 logs.0) m.log;
+        log = logs_agree b c s.header s.log (log_agree s.log.fragments s.log.used logs.1 logs.0) m.log;
         lists = all_from_in (Stands c s.header s.log) s.lists stands;
         reached = m.reached;
         named = m.named;
@@ -91,5 +91,5 @@ module _ (b c : List ℕ) where
         few_fragments = m.few_fragments;
       }
 
-  pub opened-same : (s : Section) → opened b ≡ done s → s.header.end ≤ length c → ((i : ℕ) → Footprint s i → get_or c i 0 ≡ get_or b i 0) → opened c ≡ done s
-  opened-same s e n h = let (m, o) = opens_means b s e in means_opens_in_order c s (means-same s n h m) o
+  pub opened_same : (s : Section) → opened b ≡ done s → s.header.end ≤ length c → ((i : ℕ) → Footprint s i → get_or c i 0 ≡ get_or b i 0) → opened c ≡ done s
+  opened_same s e n h = let (m, o) = opens_means b s e in means_opens_in_order c s (means_same s n h m) o

@@ -18,7 +18,7 @@ use Rattle.meaning.proofs.Members.{has_from_in, all_in, all_from_in}
 use Rattle.commits.proofs.Contents.{DataSame, lists_held}
 use Rattle.commits.proofs.SeenAlike.{Alike, seen_alike}
 use Rattle.lasting.proofs.Places.{meant}
-use Rattle.lasting.proofs.SameFile.{opened-same}
+use Rattle.lasting.proofs.SameFile.{opened_same}
 
 -- nodes that hold the same hold the same at each index
 held_at : (b c : List ℕ) (ns : List Node) (i : ℕ) → map (holds c) ns ≡ map (holds b) ns → holds c (get_or ns i no_node) ≡ holds b (get_or ns i no_node)
@@ -42,22 +42,22 @@ module _ (b c : List ℕ) (s : Section) (m : Means b s) (n : s.header.end ≤ le
       let stored = m.header.stored in
       (omega arith, omega arith, λ i u v. sym (h i (in_data (has_from_in (data_spans s.lists) r j) (u, v)))))
 
-  held-lists : (list : ℕ) → map (holds c) (nodes_of s.lists list) ≡ map (holds b) (nodes_of s.lists list)
-  held-lists list = lists_held b c s.lists list data_same
+  held_lists : (list : ℕ) → map (holds c) (nodes_of s.lists list) ≡ map (holds b) (nodes_of s.lists list)
+  held_lists list = lists_held b c s.lists list data_same
 
   seen_same : (l : Look) → seen_in c s l ≡ seen_in b s l
   seen_same l = seen_alike c b s s l (λ list index.
       let k = looks_to l in
       alike b c (eqb k 0 || ltb s.header.count k) (not (taken list s.lists) || leb (count_at s.log k list) index) (fault 25 5 0 0) (fault 26 5 0 0)
-      (get_or (nodes_of s.lists list) index no_node) (held_at b c (nodes_of s.lists list) index (held-lists list)))
+      (get_or (nodes_of s.lists list) index no_node) (held_at b c (nodes_of s.lists list) index (held_lists list)))
 
   -- what a list holds
   pub held_same : opened b ≡ done s → opened c ≡ done s → (list : ℕ) → held c list ≡ held b list
   unfolding held
-  held_same e x list = rw (e, x) (held-lists list)
+  held_same e x list = rw (e, x) (held_lists list)
 
 pub local : Local
 unfolding look
 local b c s e n h =
-    let x = opened-same b c s e n h in
+    let x = opened_same b c s e n h in
     (x, λ l. rw (e, x) (ap (answered l) (seen_same b c s (meant b s e) n h l)))

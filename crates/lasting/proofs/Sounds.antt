@@ -11,7 +11,7 @@ use Rattle.model.specs.Laws.{Taken, CommitReads, LooksGrow, adds_of, Sound, Step
 use Rattle.lasting.specs.Uncommitted.{DraftsUnseen}
 use Rattle.lasting.proofs.Effects.{open_state, Does, stays, rests, grows, ends, does}
 use Rattle.lasting.proofs.Opening.{sees}
-use Rattle.lasting.proofs.InDraft.{drafted_bytes, Drafting, committed_bytes, mid-same, rested, next-taken, next-same, next-is, next-drafting, commit-taken, committed-drafting}
+use Rattle.lasting.proofs.InDraft.{drafted_bytes, Drafting, committed_bytes, mid_same, rested, next_taken, next_same, next_is, next_drafting, commit_taken, committed_drafting}
 
 -- the call c keeps the state st, whose count is n, sound, and each look to a k up to n
 abbrev StepsFrom : Call → ℕ → State → ℕ → Type 0
@@ -48,31 +48,31 @@ module _ {ceiling : ℕ} {b : List ℕ} {s : Section} (d : Access) (x : Drafting
   abbrev here : State
   here = open_state ceiling mid d
 
-  pub does-here : (c : Call) → Fit c → Does ceiling mid s d c (effect here c)
-  does-here c fit = does ceiling mid s (mid-same x).opens d.mark d.begins d.draft c fit
+  pub does_here : (c : Call) → Fit c → Does ceiling mid s d c (effect here c)
+  does_here c fit = does ceiling mid s (mid_same x).opens d.mark d.begins d.draft c fit
 
   -- the store takes the writes of each call
   takes : (c : Call) (o : Outcome Effect) → Does ceiling mid s d c o → Taken (length mid) ceiling (writes_of o)
   takes c o (stays i j k) = subst (Taken (length mid) ceiling) (sym j) tt
   takes c o (rests a n draft i j) = tt
-  takes c o (grows token a y i fit p) = next-taken x a fit p
-  takes c o (ends token guid i j p) = commit-taken x guid i j p
+  takes c o (grows token a y i fit p) = next_taken x a fit p
+  takes c o (ends token guid i j p) = commit_taken x guid i j p
 
-  takes-here : (c : Call) → Fit c → Taken (length mid) ceiling (writes here c)
+  takes_here : (c : Call) → Fit c → Taken (length mid) ceiling (writes here c)
   unfolding writes
-  takes-here c fit = takes c (effect here c) (does-here c fit)
+  takes_here c fit = takes c (effect here c) (does_here c fit)
 
   -- the state after an effect
-  abbrev then-state : Outcome Effect → State
-  then-state o = record { bytes = applied mid (writes_of o); ceiling = ceiling; access = access_after (Some d) o }
+  abbrev then_state : Outcome Effect → State
+  then_state o = record { bytes = applied mid (writes_of o); ceiling = ceiling; access = access_after (Some d) o }
 
-  unchanged : (o : Outcome Effect) → writes_of o ≡ [] → access_after (Some d) o ≡ Some d → then-state o ≡ here
+  unchanged : (o : Outcome Effect) → writes_of o ≡ [] → access_after (Some d) o ≡ Some d → then_state o ≡ here
   unfolding applied
   unchanged o i j = rw (i, j)
 
   -- an effect that commits nothing keeps the count, and every look
   abbrev Quiet : Outcome Effect → Type 0
-  Quiet o = Sound (then-state o) s.header.count ceiling × ((l : Look) → answer (then-state o) (looking l) ≡ answer here (looking l))
+  Quiet o = Sound (then_state o) s.header.count ceiling × ((l : Look) → answer (then_state o) (looking l) ≡ answer here (looking l))
 
   quiet : (c : Call) (o : Outcome Effect) → Does ceiling mid s d c o → commits (answer_of o) ≡ 0 → Quiet o
   unfolding applied
@@ -82,50 +82,50 @@ module _ {ceiling : ℕ} {b : List ℕ} {s : Section} (d : Access) (x : Drafting
         λ l. ap (λ (st : State). answer st (looking l)) e,
       )
   quiet c o (rests a n draft i j) q =
-      let then-d : Access = record { mark = d.mark; begins = n; draft = draft } in
+      let then_d : Access = record { mark = d.mark; begins = n; draft = draft } in
       let at_rest = subst (Drafting ceiling mid s) (sym j) (rested x) in (
-        sound_at (open_state ceiling mid then-d) then-d at_rest refl refl (ap (drafted_bytes mid s) (sym j)),
-        λ l. sees ceiling mid then-d l ∙ sym (sees ceiling mid d l),
+        sound_at (open_state ceiling mid then_d) then_d at_rest refl refl (ap (drafted_bytes mid s) (sym j)),
+        λ l. sees ceiling mid then_d l ∙ sym (sees ceiling mid d l),
       )
   quiet c o (grows token a y i fit p) q =
-      let then-d : Access = record { mark = d.mark; begins = d.begins; draft = Some (adds ++ (a ∷ [])) } in (
-        sound_at (open_state ceiling _ then-d) then-d (next-drafting x a fit p) refl refl (next-is x a fit p),
-        λ l. sees ceiling _ then-d l ∙ ap saw ((next-same x a fit p).looks l) ∙ sym (sees ceiling mid d l),
+      let then_d : Access = record { mark = d.mark; begins = d.begins; draft = Some (adds ++ (a ∷ [])) } in (
+        sound_at (open_state ceiling _ then_d) then_d (next_drafting x a fit p) refl refl (next_is x a fit p),
+        λ l. sees ceiling _ then_d l ∙ ap saw ((next_same x a fit p).looks l) ∙ sym (sees ceiling mid d l),
       )
   quiet c o (ends token guid i j p) q = absurd (omega arith)
 
-  quiet-here : (c : Call) → Fit c → QuietFrom c ceiling here s.header.count
+  quiet_here : (c : Call) → Fit c → QuietFrom c ceiling here s.header.count
   unfolding answer after writes
-  quiet-here c fit q = quiet c (effect here c) (does-here c fit) q
+  quiet_here c fit q = quiet c (effect here c) (does_here c fit) q
 
   module _ (reads : CommitReads) (grow : LooksGrow) where
     abbrev Stepped : Outcome Effect → Type 0
-    Stepped o = Sound (then-state o) (s.header.count + commits (answer_of o)) ceiling × ((k : ℕ) → 1 ≤ k → k ≤ s.header.count → LookAlike k (then-state o) here)
+    Stepped o = Sound (then_state o) (s.header.count + commits (answer_of o)) ceiling × ((k : ℕ) → 1 ≤ k → k ≤ s.header.count → LookAlike k (then_state o) here)
 
-    from-quiet : (o : Outcome Effect) → commits (answer_of o) ≡ 0 → Quiet o → Stepped o
-    from-quiet o e q =
+    from_quiet : (o : Outcome Effect) → commits (answer_of o) ≡ 0 → Quiet o → Stepped o
+    from_quiet o e q =
         let n : s.header.count ≡ s.header.count + commits (answer_of o) = omega arith in
-        (subst (λ n. Sound (then-state o) n ceiling) n q.0, λ k one h l r. q.1 l)
+        (subst (λ n. Sound (then_state o) n ceiling) n q.0, λ k one h l r. q.1 l)
 
     stepped : (c : Call) (o : Outcome Effect) → Does ceiling mid s d c o → Stepped o
     unfolding applied
-    stepped c o (stays i j k) = from-quiet o i (quiet c o (stays i j k) i)
-    stepped c o (rests a n draft i j) = from-quiet o i (quiet c o (rests a n draft i j) i)
-    stepped c o (grows token a y i fit p) = from-quiet o i (quiet c o (grows token a y i fit p) i)
+    stepped c o (stays i j k) = from_quiet o i (quiet c o (stays i j k) i)
+    stepped c o (rests a n draft i j) = from_quiet o i (quiet c o (rests a n draft i j) i)
+    stepped c o (grows token a y i fit p) = from_quiet o i (quiet c o (grows token a y i fit p) i)
     stepped c o (ends token guid i j p) =
-        let then-d : Access = record { mark = d.mark; begins = d.begins; draft = None } in
+        let then_d : Access = record { mark = d.mark; begins = d.begins; draft = None } in
         let new = committed_bytes b s adds guid in
         let r = reads b ceiling s adds guid x.are_bytes i j x.opens x.dones p in (
-          subst (λ n. Sound (open_state ceiling new then-d) n ceiling) r.count (sound_at (open_state ceiling new then-d) then-d (committed-drafting x guid i j p r) refl refl refl),
+          subst (λ n. Sound (open_state ceiling new then_d) n ceiling) r.count (sound_at (open_state ceiling new then_d) then_d (committed_drafting x guid i j p r) refl refl refl),
           λ k one h l q.
-              sees ceiling new then-d l
-              ∙ ap saw (grow b ceiling s adds guid x.are_bytes i j x.opens x.dones p l (omega arith) (omega arith) ∙ sym ((mid-same x).looks l))
+              sees ceiling new then_d l
+              ∙ ap saw (grow b ceiling s adds guid x.are_bytes i j x.opens x.dones p l (omega arith) (omega arith) ∙ sym ((mid_same x).looks l))
               ∙ sym (sees ceiling mid d l),
         )
 
-    steps-here : (c : Call) → Fit c → StepsFrom c ceiling here s.header.count
+    steps_here : (c : Call) → Fit c → StepsFrom c ceiling here s.header.count
     unfolding answer after writes
-    steps-here c fit = stepped c (effect here c) (does-here c fit)
+    steps_here c fit = stepped c (effect here c) (does_here c fit)
 
 -- ---- any sound state is such a one
 
@@ -150,15 +150,15 @@ of_sound {st} {n} {ceiling} P k p =
     subst (P st) k.count (subst (λ (x : State). P x k.section.header.count) (sym e) p)
 
 pub steps_sound : CommitReads → LooksGrow → StepsSound
-steps_sound reads grow st n ceiling c k fit = of_sound (StepsFrom c ceiling) k (steps-here k.access (sound_drafting k) reads grow c fit)
+steps_sound reads grow st n ceiling c k fit = of_sound (StepsFrom c ceiling) k (steps_here k.access (sound_drafting k) reads grow c fit)
 
 -- the store takes each write of the next call
 pub sound_takes : {st : State} {n ceiling : ℕ} (c : Call) → Sound st n ceiling → Fit c → Taken (length st.bytes) ceiling (writes st c)
-sound_takes {ceiling = ceiling} c k fit = of_sound (λ x m. Taken (length x.bytes) ceiling (writes x c)) k (takes-here k.access (sound_drafting k) c fit)
+sound_takes {ceiling = ceiling} c k fit = of_sound (λ x m. Taken (length x.bytes) ceiling (writes x c)) k (takes_here k.access (sound_drafting k) c fit)
 
 -- a call that commits nothing is not seen
 unseen : {st : State} {n ceiling : ℕ} (c : Call) → Sound st n ceiling → Fit c → QuietFrom c ceiling st n
-unseen {ceiling = ceiling} c k fit = of_sound (QuietFrom c ceiling) k (quiet-here k.access (sound_drafting k) c fit)
+unseen {ceiling = ceiling} c k fit = of_sound (QuietFrom c ceiling) k (quiet_here k.access (sound_drafting k) c fit)
 
 pub drafts_unseen : DraftsUnseen
 drafts_unseen s n ceiling k [] u l = refl

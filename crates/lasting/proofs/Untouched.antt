@@ -50,14 +50,14 @@ module _ (b : List ℕ) (s : Section) (opens : opened b ≡ done s) where
       record { opens = x; looks = y; holds = held_same b t s (meant b s opens) (omega arith) used opens x }
 
   -- no write to the free zone is the header's
-  pub not-header : (w : Write) → WritesFree s w → WritesHeader w → ⊥
-  not-header w a (p, n) = free_apart b s opens 0 (in_header (omega arith, omega arith)) (a 0 (omega arith) (omega arith))
+  pub not_header : (w : Write) → WritesFree s w → WritesHeader w → ⊥
+  not_header w a (p, n) = free_apart b s opens 0 (in_header (omega arith, omega arith)) (a 0 (omega arith) (omega arith))
 
   -- a cut in one leaves what is outside it
-  torn-outside : (x : List ℕ) (w : Write) (t : List ℕ) → WritesFree s w → Cut x w t → (length x ≤ length t) × ((i : ℕ) → Outside i w → get_or t i 0 ≡ get_or x i 0)
-  torn-outside x w t a (old_header h) = absurd (not-header w a h)
-  torn-outside x w t a (new_header h) = absurd (not-header w a h)
-  torn-outside x w t a (torn h c d e o) = (d, o)
+  torn_outside : (x : List ℕ) (w : Write) (t : List ℕ) → WritesFree s w → Cut x w t → (length x ≤ length t) × ((i : ℕ) → Outside i w → get_or t i 0 ≡ get_or x i 0)
+  torn_outside x w t a (old_header h) = absurd (not_header w a h)
+  torn_outside x w t a (new_header h) = absurd (not_header w a h)
+  torn_outside x w t a (torn h c d e o) = (d, o)
 
   module _ (from to : ℕ) (reach : from ≤ length b) where
     -- a row takes the writes of a step; here no ceiling matters
@@ -65,23 +65,23 @@ module _ (b : List ℕ) (s : Section) (opens : opened b ≡ done s) where
     took ws st = st.taken (length b) (max (length b) to) reach (omega arith) (omega arith)
 
     -- all writes of a step
-    pub steps-kept : (ws : List Write) → Steps s from to ws → SameFile b (applied b ws) s
-    steps-kept ws st =
+    pub steps_kept : (ws : List Write) → Steps s from to ws → SameFile b (applied b ws) s
+    steps_kept ws st =
         let t = took ws st in
         let e = length_applied b (max (length b) to) ws t in
         let r = length_rises (length b) ws in
         kept (applied b ws) (omega arith) (λ i x. applied_outside b (max (length b) to) ws i t (all_outside s i ws x st.free))
 
     -- then the row reaches the new end
-    pub steps-length : (ws : List Write) → Steps s from to ws → length (applied b ws) ≡ max (length b) to
-    steps-length ws st = length_applied b (max (length b) to) ws (took ws st) ∙ st.reaches (length b) reach
+    pub steps_length : (ws : List Write) → Steps s from to ws → length (applied b ws) ≡ max (length b) to
+    steps_length ws st = length_applied b (max (length b) to) ws (took ws st) ∙ st.reaches (length b) reach
 
     -- a cut in one of them: those before it stand
-    pub cut-kept : (before later : List Write) (w : Write) (t : List ℕ) → Steps s from to (before ++ (w ∷ later)) → Cut (applied b before) w t → SameFile b t s
-    cut-kept before later w t st cut =
+    pub cut_kept : (before later : List Write) (w : Write) (t : List ℕ) → Steps s from to (before ++ (w ∷ later)) → Cut (applied b before) w t → SameFile b t s
+    cut_kept before later w t st cut =
         let (x, y) = all_front (WritesFree s) before (w ∷ later) st.free in
         let k = taken_front (length b) (max (length b) to) before (w ∷ later) (took (before ++ (w ∷ later)) st) in
         let e = length_applied b (max (length b) to) before k in
         let r = length_rises (length b) before in
-        let (d, o) = torn-outside (applied b before) w t y.0 cut in
+        let (d, o) = torn_outside (applied b before) w t y.0 cut in
         kept t (omega arith) (λ i f. o i (outside s i w f y.0) ∙ applied_outside b (max (length b) to) before i k (all_outside s i before f x))

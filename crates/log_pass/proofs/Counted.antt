@@ -13,7 +13,7 @@ use Rattle.model.specs.OpenedLog.{outside, overlaps, Reading, reading, LogPart, 
 use Rattle.log_pass.specs.Logs.{Met, wrong, ends, goes, met, counts_past, counts_in, counts_after, counts_met, whole_log, all_counts}
 use Rattle.log_pass.proofs.OneEntry.{flat_push}
 use Rattle.log_pass.proofs.Entries.{log_past, log_entries_more, counts_in_more}
-use Rattle.log_pass.proofs.Fragments.{from-outside, from-overlap, at-log, at-counts}
+use Rattle.log_pass.proofs.Fragments.{from_outside, from_overlap, at_log, at_counts}
 
 -- how many entries were read
 abbrev total : Reading → ℕ
@@ -68,19 +68,19 @@ counts_in_total (suc n) b count f i k part e =
 module _ (m : ℕ) (b : List ℕ) (h : Header) (fs : List Span) (field : ℕ) (f : Span) (k : Reading) (log : Log)
     (ih : (gs : List Span) (p : ℕ) (g : Span) (j : Reading) → log_from m b h gs p g j ≡ done log → length (counts_met m b h gs p g j) + total j ≡ length (flat log.transactions))
     (o : outside 12 h.end f ≡ false) (v : overlaps f fs ≡ false) where
-  fragment-step : (x : Outcome LogPart) → log_entries (entries_in f.size) b h.count f 0 k ≡ x → then x (log_goes (log_from m b h) b fs f) ≡ done log
+  fragment_step : (x : Outcome LogPart) → log_entries (entries_in f.size) b h.count f 0 k ≡ x → then x (log_goes (log_from m b h) b fs f) ≡ done log
       → length (counts_met (suc m) b h fs field f k) + total k ≡ length (flat log.transactions)
-  fragment-step (refused y) e d = let z : ◌≡◌ {A = ℕ} 0 1 = cc in absurd (omega arith)
-  fragment-step (done (finished ts used)) e d =
+  fragment_step (refused y) e d = let z : ◌≡◌ {A = ℕ} 0 1 = cc in absurd (omega arith)
+  fragment_step (done (finished ts used)) e d =
       let q : ts ≡ log.transactions = ap logs d in
-      let c = at-counts m b h fs field f k o v (done (finished ts used)) e ∙ append-nil (counts_in (entries_in f.size) b h.count f 0 k) in
+      let c = at_counts m b h fs field f k o v (done (finished ts used)) e ∙ append-nil (counts_in (entries_in f.size) b h.count f 0 k) in
       omega (arith, ap length c, counts_in_total (entries_in f.size) b h.count f 0 k (finished ts used) e, ap (λ xs. length (flat xs)) q)
     where
       logs : Outcome Log → List (List Entry)
       logs (done l) = l.transactions
       logs (refused y) = []
-  fragment-step (done (unfinished j)) e d =
-      let c = at-counts m b h fs field f k o v (done (unfinished j)) e in
+  fragment_step (done (unfinished j)) e d =
+      let c = at_counts m b h fs field f k o v (done (unfinished j)) e in
       let a = counts_in_total (entries_in f.size) b h.count f 0 k (unfinished j) e in
       omega (arith, ap length c, length-append (counts_in (entries_in f.size) b h.count f 0 k) (counts_after (counts_met m b h) b fs f (done (unfinished j))), a, ih _ _ _ j d)
 
@@ -92,12 +92,12 @@ counts_met_total zero b h fs field f k log e = elim (cases_Bool (outside 12 h.en
   | inr o ↦ let q = rw o at e in let z : ◌≡◌ {A = ℕ} 0 1 = cc in absurd (omega arith)
 ]
 counts_met_total (suc m) b h fs field f k log e = elim (cases_Bool (outside 12 h.end f)) [
-  | inl o ↦ let q = sym (from-outside m b h fs field f k o) ∙ e in let z : ◌≡◌ {A = ℕ} 0 1 = cc in absurd (omega arith)
+  | inl o ↦ let q = sym (from_outside m b h fs field f k o) ∙ e in let z : ◌≡◌ {A = ℕ} 0 1 = cc in absurd (omega arith)
   | inr o ↦ elim (cases_Bool (overlaps f fs)) [
-    | inl v ↦ let q = sym (from-overlap m b h fs field f k o v) ∙ e in let z : ◌≡◌ {A = ℕ} 0 1 = cc in absurd (omega arith)
+    | inl v ↦ let q = sym (from_overlap m b h fs field f k o v) ∙ e in let z : ◌≡◌ {A = ℕ} 0 1 = cc in absurd (omega arith)
     | inr v ↦
-        fragment-step m b h fs field f k log (λ gs p g j d. counts_met_total m b h gs p g j log d) o v
-        (log_entries (entries_in f.size) b h.count f 0 k) refl (sym (at-log m b h fs field f k o v _ refl) ∙ e)
+        fragment_step m b h fs field f k log (λ gs p g j d. counts_met_total m b h gs p g j log d) o v
+        (log_entries (entries_in f.size) b h.count f 0 k) refl (sym (at_log m b h fs field f k o v _ refl) ∙ e)
   ]
 ]
 

@@ -86,10 +86,10 @@ module _ (b : List ℕ) (count : ℕ) (f : Span) (k : Reading) (len : ℕ) where
             long = a ∙ omega (arith, g.long, length-append g.places ps);
           }
 
-      pub going-ends : (ds : List Change) (n' register' room after' : ℕ)
+      pub going_ends : (ds : List Change) (n' register' room after' : ℕ)
           → Takes (met count (entry_place f i) e g.to) count (entry_place f i) room after ds n' register' after' (Ok true)
           → EntriesRead b count f room k len ds n' register' after' (Ok (Some (i + 1)))
-      going-ends ds n' register' room after' (ts, m, c, z, a) =
+      going_ends ds n' register' room after' (ts, m, c, z, a) =
           let q = to_step (ends ts) m in
           let w : counts_in (entries_in f.size) b count f 0 k ≡ g.places
           = counts l ∙ ap (λ x. g.places ++ counts_past (counts_in (entries_in f.size - (i + 1)) b count f (i + 1)) x) q ∙ append-nil g.places in (
@@ -100,18 +100,18 @@ module _ (b : List ℕ) (count : ℕ) (f : Span) (k : Reading) (len : ℕ) where
             a ∙ g.long ∙ ap (λ xs. len + length xs) (sym w),
           )
 
-      wrong-told : (room : ℕ) → after ≤ room → (x : LogFault) → met count (entry_place f i) e g.to ≡ wrong (log_told x)
+      wrong_told : (room : ℕ) → after ≤ room → (x : LogFault) → met count (entry_place f i) e g.to ≡ wrong (log_told x)
           → Told (log_entries (entries_in f.size) b count f 0 k) (counts_in (entries_in f.size) b count f 0 k) (room - len) x
-      wrong-told room h x m =
+      wrong_told room h x m =
           let q = to_step (wrong (log_told x)) m in
           let w : counts_in (entries_in f.size) b count f 0 k ≡ g.places
           = counts l ∙ ap (λ y. g.places ++ counts_past (counts_in (entries_in f.size - (i + 1)) b count f (i + 1)) y) q ∙ append-nil g.places in
           let s = g.long in
           (gives l ∙ ap (log_past (log_entries (entries_in f.size - (i + 1)) b count f (i + 1)) (i + 1)) q, omega (arith, ap length w))
 
-      wrong-room : (room q : ℕ) → after ≤ room → (to : Reading) → met count (entry_place f i) e g.to ≡ goes (entry_place f i ∷ []) to → room ≤ after → q ≡ entry_place f i
+      wrong_room : (room q : ℕ) → after ≤ room → (to : Reading) → met count (entry_place f i) e g.to ≡ goes (entry_place f i ∷ []) to → room ≤ after → q ≡ entry_place f i
           → (room - len < length (counts_in (entries_in f.size) b count f 0 k)) × (q ≡ get_or (counts_in (entries_in f.size) b count f 0 k) (room - len) 0)
-      wrong-room room q h to m r p =
+      wrong_room room q h to m r p =
           let z = to_step (goes (entry_place f i ∷ []) to) m in
           let more = counts_in (entries_in f.size - (i + 1)) b count f (i + 1) to in
           let w : counts_in (entries_in f.size) b count f 0 k ≡ g.places ++ (entry_place f i ∷ more)
@@ -121,39 +121,39 @@ module _ (b : List ℕ) (count : ℕ) (f : Span) (k : Reading) (len : ℕ) where
             p ∙ sym (ap (λ xs. get_or xs (room - len) 0) w ∙ get_or_at g.places (entry_place f i) more 0 (room - len) s),
           )
 
-      pub going-wrong : (room : ℕ) → after ≤ room → (x : LogFault) → TakesWrong (met count (entry_place f i) e g.to) (entry_place f i) room after x
+      pub going_wrong : (room : ℕ) → after ≤ room → (x : LogFault) → TakesWrong (met count (entry_place f i) e g.to) (entry_place f i) room after x
           → Refuses (log_entries (entries_in f.size) b count f 0 k) (counts_in (entries_in f.size) b count f 0 k) (room - len) x
-      going-wrong room h (log.Outside p) m = wrong-told room h (log.Outside p) m
-      going-wrong room h (log.Sum p) m = wrong-told room h (log.Sum p) m
-      going-wrong room h (log.Backward p) m = wrong-told room h (log.Backward p) m
-      going-wrong room h (log.Overlap p) m = wrong-told room h (log.Overlap p) m
-      going-wrong room h (log.Full p) m = wrong-told room h (log.Full p) m
-      going-wrong room h (log.Room p) (to, m, r, q) = wrong-room room p h to m r q
+      going_wrong room h (log.Outside p) m = wrong_told room h (log.Outside p) m
+      going_wrong room h (log.Sum p) m = wrong_told room h (log.Sum p) m
+      going_wrong room h (log.Backward p) m = wrong_told room h (log.Backward p) m
+      going_wrong room h (log.Overlap p) m = wrong_told room h (log.Overlap p) m
+      going_wrong room h (log.Full p) m = wrong_told room h (log.Full p) m
+      going_wrong room h (log.Room p) (to, m, r, q) = wrong_room room p h to m r q
 
       -- as the code comes to them
       pub ends_at : (t : Bool) → t ≡ true → (ds : List Change) (n' register' room after' : ℕ)
           → Takes (met count (entry_place f i) e g.to) count (entry_place f i) room after ds n' register' after' (Ok t)
           → EntriesRead b count f room k len ds n' register' after' (Ok (Some (i + 1)))
-      ends_at true q ds n' register' room after' t = going-ends ds n' register' room after' t
+      ends_at true q ds n' register' room after' t = going_ends ds n' register' room after' t
       ends_at false q ds n' register' room after' t = absurd (false≢true q)
 
-      pub more-at : (t : Bool) → t ≡ false → (ds : List Change) (n' register' room after' : ℕ)
+      pub more_at : (t : Bool) → t ≡ false → (ds : List Change) (n' register' room after' : ℕ)
           → Takes (met count (entry_place f i) e g.to) count (entry_place f i) room after ds n' register' after' (Ok t)
           → Going b count f (i + 1) k len ds n' register' after'
-      more-at false q ds n' register' room after' t = going_more ds n' register' room after' t
-      more-at true q ds n' register' room after' t = absurd (true≢false q)
+      more_at false q ds n' register' room after' t = going_more ds n' register' room after' t
+      more_at true q ds n' register' room after' t = absurd (true≢false q)
 
-      pub wrong-at : (room room' : ℕ) → room ≡ room' → after ≤ room → (x : LogFault) (r : Result (Option ℕ) LogFault) → r ≡ Err x → (ds : List Change) (n' register' after' : ℕ)
+      pub wrong_at : (room room' : ℕ) → room ≡ room' → after ≤ room → (x : LogFault) (r : Result (Option ℕ) LogFault) → r ≡ Err x → (ds : List Change) (n' register' after' : ℕ)
           → TakesWrong (met count (entry_place f i) e g.to) (entry_place f i) room after x
           → EntriesRead b count f room' k len ds n' register' after' r
-      wrong-at room room' q h x r z ds n' register' after' t =
+      wrong_at room room' q h x r z ds n' register' after' t =
           let P : Result (Option ℕ) LogFault → Type 0 = λ y. EntriesRead b count f room' k len ds n' register' after' y in
           let Q : ℕ → Type 0 = λ y. EntriesRead b count f y k len ds n' register' after' (Err x) in
-          subst P (sym z) (subst Q q (going-wrong room h x t))
+          subst P (sym z) (subst Q q (going_wrong room h x t))
 
-    pub going-all : entries_in f.size ≤ i → (room : ℕ) → EntriesRead b count f room k len cs n register after (Ok None)
+    pub going_all : entries_in f.size ≤ i → (room : ℕ) → EntriesRead b count f room k len cs n register after (Ok None)
     unfolding log_entries counts_in
-    going-all l room =
+    going_all l room =
         let e : entries_in f.size - i ≡ 0 = omega arith in
         let w : counts_in (entries_in f.size) b count f 0 k ≡ g.places
         = sym g.counted ∙ ap (λ m. g.places ++ counts_in m b count f i g.to) e ∙ append-nil g.places in (

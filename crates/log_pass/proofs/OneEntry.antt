@@ -37,25 +37,25 @@ module _ (count p : ℕ) (cs : List Change) (n register : ℕ) (k : Reading) (h 
   counted id =
       ap (latest id 0) (ap entries h.noted ∙ entries_numbered (k.transactions ++ (k.pending ∷ [])) 1 ∙ flat_push k.transactions k.pending)
 
-  pub met-backward : (e : Entry) → (e.source ≡ 1 → ⊥) → e.number ≤ noted cs e.source → met count p e k ≡ wrong (fault 7 2 p 0)
+  pub met_backward : (e : Entry) → (e.source ≡ 1 → ⊥) → e.number ≤ noted cs e.source → met count p e k ≡ wrong (fault 7 2 p 0)
   unfolding met
-  met-backward e s l =
+  met_backward e s l =
       let a : eqb e.source 1 ≡ false = ne_eqb e.source 1 s in
       let b : leb e.number (latest e.source 0 (flat k.transactions ++ k.pending)) ≡ true = le-leb _ _ (omega (arith, counted e.source)) in
       rw (a, b)
 
-  pub met-count : (e : Entry) → (e.source ≡ 1 → ⊥) → noted cs e.source < e.number
+  pub met_count : (e : Entry) → (e.source ≡ 1 → ⊥) → noted cs e.source < e.number
       → met count p e k ≡ goes (p ∷ []) (reading k.transactions (k.pending ++ (e ∷ [])))
   unfolding met
-  met-count e s l =
+  met_count e s l =
       let a : eqb e.source 1 ≡ false = ne_eqb e.source 1 s in
       let b : leb e.number (latest e.source 0 (flat k.transactions ++ k.pending)) ≡ false = lt-leb _ _ (omega (arith, counted e.source)) in
       rw (a, b)
 
-  pub holds-count : (e : Entry) (bytes : List ℕ) → bytes ≡ entry_bytes (e ∷ []) → (ds : List Change) (m register' : ℕ)
+  pub holds_count : (e : Entry) (bytes : List ℕ) → bytes ≡ entry_bytes (e ∷ []) → (ds : List Change) (m register' : ℕ)
       → ds ≡ cs ++ (change (n + 1) e.source e.number ∷ []) → m ≡ n → register' ≡ run crc_32 register bytes
       → Holds count ds m register' (reading k.transactions (k.pending ++ (e ∷ [])))
-  holds-count e bytes b ds m register' d q r =
+  holds_count e bytes b ds m register' d q r =
       let z : n + 1 ≡ 1 + length k.transactions = omega (arith, h.ended) in
       record {
         noted = d ∙ ap₂ (λ xs t. xs ++ (change t e.source e.number ∷ [])) h.noted z ∙ numbered_note k.transactions 1 k.pending e.source e.number;
@@ -64,40 +64,40 @@ module _ (count p : ℕ) (cs : List Change) (n register : ℕ) (k : Reading) (h 
         summed = r ∙ ap₂ (run crc_32) h.summed b ∙ sym (run_append crc_32 crc_32.first (entry_bytes k.pending) (entry_bytes (e ∷ []))) ∙ ap (run crc_32 crc_32.first) (sym (bytes_push k.pending e));
       }
 
-  crc-held : bit_xor register crc_32.last ≡ crc_of crc_32 (entry_bytes k.pending)
+  crc_held : bit_xor register crc_32.last ≡ crc_of crc_32 (entry_bytes k.pending)
   unfolding crc_of
-  crc-held = ap (λ x. bit_xor x crc_32.last) h.summed
+  crc_held = ap (λ x. bit_xor x crc_32.last) h.summed
 
-  pub met-sum : (sum c : ℕ) → c ≡ bit_xor register crc_32.last → (c ≡ sum → ⊥) → met count p (entry 1 sum) k ≡ wrong (fault 6 2 p 0)
+  pub met_sum : (sum c : ℕ) → c ≡ bit_xor register crc_32.last → (c ≡ sum → ⊥) → met count p (entry 1 sum) k ≡ wrong (fault 6 2 p 0)
   unfolding met
-  met-sum sum c q d =
-      let a : eqb sum (crc_of crc_32 (entry_bytes k.pending)) ≡ false = ne_eqb _ _ (λ e. d (q ∙ crc-held ∙ sym e)) in
+  met_sum sum c q d =
+      let a : eqb sum (crc_of crc_32 (entry_bytes k.pending)) ≡ false = ne_eqb _ _ (λ e. d (q ∙ crc_held ∙ sym e)) in
       rw a
 
-  met-sentinel : (sum c : ℕ) → c ≡ bit_xor register crc_32.last → c ≡ sum
+  met_sentinel : (sum c : ℕ) → c ≡ bit_xor register crc_32.last → c ≡ sum
       → met count p (entry 1 sum) k ≡ cond (eqb (length (k.transactions ++ (k.pending ∷ []))) count) (ends (k.transactions ++ (k.pending ∷ []))) (goes [] (reading (k.transactions ++ (k.pending ∷ [])) []))
   unfolding met
-  met-sentinel sum c q d =
-      let a : eqb sum (crc_of crc_32 (entry_bytes k.pending)) ≡ true = eq-eqb _ _ (sym d ∙ q ∙ crc-held) in
+  met_sentinel sum c q d =
+      let a : eqb sum (crc_of crc_32 (entry_bytes k.pending)) ≡ true = eq-eqb _ _ (sym d ∙ q ∙ crc_held) in
       rw a
 
-  pub takes-sentinel : (sum c : ℕ) → c ≡ bit_xor register crc_32.last → c ≡ sum → (t : Bool) (room len : ℕ) (ds : List Change) (m register' after : ℕ)
+  pub takes_sentinel : (sum c : ℕ) → c ≡ bit_xor register crc_32.last → c ≡ sum → (t : Bool) (room len : ℕ) (ds : List Change) (m register' after : ℕ)
       → count < 2 ^ 32 → ds ≡ cs → m ≡ min (n + 1) (2 ^ 63) → register' ≡ crc_32.first → after ≡ len → t ≡ eqb m count
       → Takes (met count p (entry 1 sum) k) count p room len ds m register' after (Ok t)
   unfolding entry_bytes
-  takes-sentinel sum c q d true room len ds m register' after b s z r a t =
+  takes_sentinel sum c q d true room len ds m register' after b s z r a t =
       let ts = k.transactions ++ (k.pending ∷ []) in
       let l : m ≡ length ts = omega (arith, h.ended, h.under, length_push k.transactions k.pending) in
       let e : eqb (length ts) count ≡ true = ap (λ x. eqb x count) (sym l) ∙ sym t in
-      (ts, met-sentinel sum c q d ∙ rw e, s ∙ h.noted, l, a)
-  takes-sentinel sum c q d false room len ds m register' after b s z r a t =
+      (ts, met_sentinel sum c q d ∙ rw e, s ∙ h.noted, l, a)
+  takes_sentinel sum c q d false room len ds m register' after b s z r a t =
       let ts = k.transactions ++ (k.pending ∷ []) in
       let l : m ≡ length ts = omega (arith, h.ended, h.under, length_push k.transactions k.pending) in
       let e : eqb (length ts) count ≡ false = ap (λ x. eqb x count) (sym l) ∙ sym t in
       let u : length ts < count = omega (arith, h.under, length_push k.transactions k.pending, eqb-false (length ts) count e) in (
         reading ts [],
         [],
-        met-sentinel sum c q d ∙ rw e,
+        met_sentinel sum c q d ∙ rw e,
         record {
           noted = s ∙ h.noted ∙ sym (numbered_finish ts 1);
           ended = l;
@@ -142,14 +142,14 @@ eight (x ∷ y ∷ z ∷ u ∷ v ∷ w ∷ s ∷ t ∷ []) e b =
     sym (ap₂ (λ xs ys. xs ++ (ys ++ [])) (four x y z u (b 0 (omega arith)) (b 1 (omega arith)) (b 2 (omega arith)) (b 3 (omega arith))) (four v w s t (b 4 (omega arith)) (b 5 (omega arith)) (b 6 (omega arith)) (b 7 (omega arith))))
 eight (x ∷ y ∷ z ∷ u ∷ v ∷ w ∷ s ∷ t ∷ o ∷ xs) e b = absurd (omega arith)
 
-module _ (row buffer : List ℕ) (p : ℕ) (w : Window row p buffer) (l : length buffer ≡ 8) (s n : ℕ) (is-s : s ≡ le 4 buffer 0) (is-n : n ≡ le 4 buffer 4) where
-  pub entry-window : entry s n ≡ entry_at row p
-  entry-window =
+module _ (row buffer : List ℕ) (p : ℕ) (w : Window row p buffer) (l : length buffer ≡ 8) (s n : ℕ) (is_s : s ≡ le 4 buffer 0) (is_n : n ≡ le 4 buffer 4) where
+  pub entry_window : entry s n ≡ entry_at row p
+  entry_window =
       ap₂ entry
-      (is-s ∙ le_window 4 row buffer p 0 w (omega arith) ∙ ap (le 4 row) (add-zero p))
-      (is-n ∙ le_window 4 row buffer p 4 w (omega arith))
+      (is_s ∙ le_window 4 row buffer p 0 w (omega arith) ∙ ap (le 4 row) (add-zero p))
+      (is_n ∙ le_window 4 row buffer p 4 w (omega arith))
 
-  pub bytes-window : ((i : ℕ) → get_or row i 0 < 256) → buffer ≡ entry_bytes (entry s n ∷ [])
-  bytes-window b =
+  pub bytes_window : ((i : ℕ) → get_or row i 0 < 256) → buffer ≡ entry_bytes (entry s n ∷ [])
+  bytes_window b =
       eight buffer l (λ i h. omega (arith, w i (omega arith), b (p + i)))
-      ∙ ap₂ (λ x y. entry_bytes (entry x y ∷ [])) (sym is-s) (sym is-n)
+      ∙ ap₂ (λ x y. entry_bytes (entry x y ∷ [])) (sym is_s) (sym is_n)

@@ -26,10 +26,10 @@ unfoldable pub met : ℕ → ℕ → Entry → Reading → Met
 met count p e k =
     let ts = k.transactions ++ (k.pending ∷ []) in
     let ended = cond (length ts == count) (ends ts) (goes [] (reading ts [])) in
-    let sum-differs = not (e.number == (sentinel k.pending).number) in
-    let not-above = nat_le e.number (latest e.source 0 (flat k.transactions ++ k.pending)) in
+    let sum_differs = not (e.number == (sentinel k.pending).number) in
+    let not_above = nat_le e.number (latest e.source 0 (flat k.transactions ++ k.pending)) in
     let more = goes (p ∷ []) (reading k.transactions (k.pending ++ (e ∷ []))) in
-    cond (e.source == 1) (cond sum-differs (wrong (fault 6 2 p 0)) ended) (cond not-above (wrong (fault 7 2 p 0)) more)
+    cond (e.source == 1) (cond sum_differs (wrong (fault 6 2 p 0)) ended) (cond not_above (wrong (fault 7 2 p 0)) more)
 
 -- the places of the counts that are met from the i-th entry of the fragment f on; n entries are left
 abbrev pub counts_past : (Reading → List ℕ) → Met → List ℕ

@@ -16,7 +16,7 @@ use Rattle.model.specs.OpenedLog.{overlaps}
 use Rattle.model.specs.Opened.{data_checks, all_data}
 use Rattle.model.specs.Means.{data_spans}
 use Rattle.model.specs.Breaks.{data_nodes, DataRight, DataBreaks}
-use Rattle.model.specs.Breaks.DataBreaks.{outside as data-outside, overlap as data-overlap}
+use Rattle.model.specs.Breaks.DataBreaks.{outside as data_outside, overlap as data_overlap}
 use Rattle.meaning.proofs.Base.{apart_overlaps, overlaps_apart}
 use Rattle.meaning.proofs.Places.{not_apart, is_not_apart}
 
@@ -30,30 +30,30 @@ spans_of (l ∷ ls) =
 
 module _ (end : ℕ) (fs : List Span) where
   -- the checks of one node, and of all
-  abbrev checks-of : ℕ × Node → List Check
-  checks-of n = data_checks end fs n.0 (n.1 ∷ [])
+  abbrev checks_of : ℕ × Node → List Check
+  checks_of n = data_checks end fs n.0 (n.1 ∷ [])
 
-  abbrev all-checks : List (ℕ × Node) → List Check
-  all-checks [] = []
-  all-checks (n ∷ ns) = checks-of n ++ all-checks ns
+  abbrev all_checks : List (ℕ × Node) → List Check
+  all_checks [] = []
+  all_checks (n ∷ ns) = checks_of n ++ all_checks ns
 
-  checks-join : (xs ys : List (ℕ × Node)) → all-checks (xs ++ ys) ≡ all-checks xs ++ all-checks ys
-  checks-join [] ys = refl
-  checks-join (x ∷ xs) ys = ap (λ w. checks-of x ++ w) (checks-join xs ys)
+  checks_join : (xs ys : List (ℕ × Node)) → all_checks (xs ++ ys) ≡ all_checks xs ++ all_checks ys
+  checks_join [] ys = refl
+  checks_join (x ∷ xs) ys = ap (λ w. checks_of x ++ w) (checks_join xs ys)
 
-  list-checks-are : (id : ℕ) (ns : List Node) → data_checks end fs id ns ≡ all-checks (map (λ n. (id, n)) ns)
-  list-checks-are id [] = refl
-  list-checks-are id (n ∷ ns) = ap (λ w. checks-of (id, n) ++ w) (list-checks-are id ns)
+  list_checks_are : (id : ℕ) (ns : List Node) → data_checks end fs id ns ≡ all_checks (map (λ n. (id, n)) ns)
+  list_checks_are id [] = refl
+  list_checks_are id (n ∷ ns) = ap (λ w. checks_of (id, n) ++ w) (list_checks_are id ns)
 
-  checks-are : (ls : List NodeList) → flat (map (λ l. data_checks end fs l.id (referring 1 l.nodes)) ls) ≡ all-checks (data_nodes ls)
-  checks-are [] = refl
-  checks-are (l ∷ ls) =
-      ap (λ w. w ++ flat (map (λ l. data_checks end fs l.id (referring 1 l.nodes)) ls)) (list-checks-are l.id (referring 1 l.nodes))
-      ∙ ap (λ w. all-checks (map (λ n. (l.id, n)) (referring 1 l.nodes)) ++ w) (checks-are ls)
-      ∙ sym (checks-join (map (λ n. (l.id, n)) (referring 1 l.nodes)) (data_nodes ls))
+  checks_are : (ls : List NodeList) → flat (map (λ l. data_checks end fs l.id (referring 1 l.nodes)) ls) ≡ all_checks (data_nodes ls)
+  checks_are [] = refl
+  checks_are (l ∷ ls) =
+      ap (λ w. w ++ flat (map (λ l. data_checks end fs l.id (referring 1 l.nodes)) ls)) (list_checks_are l.id (referring 1 l.nodes))
+      ∙ ap (λ w. all_checks (map (λ n. (l.id, n)) (referring 1 l.nodes)) ++ w) (checks_are ls)
+      ∙ sym (checks_join (map (λ n. (l.id, n)) (referring 1 l.nodes)) (data_nodes ls))
 
   -- the first reference that is not right
-  pub record First-wrong (ns : List (ℕ × Node)) (e : Fault) : Type 0 where
+  pub record FirstWrong (ns : List (ℕ × Node)) (e : Fault) : Type 0 where
     pub before : List (ℕ × Node)
     pub later : List (ℕ × Node)
     pub n : ℕ × Node
@@ -61,46 +61,46 @@ module _ (end : ℕ) (fs : List Span) where
     pub right : All (DataRight end fs) before
     pub breaks : DataBreaks end fs n e
 
-  wrong-later : (n : ℕ × Node) (ns : List (ℕ × Node)) (e : Fault) → DataRight end fs n → First-wrong ns e → First-wrong (n ∷ ns) e
-  wrong-later n ns e r w = record { before = n ∷ w.before; later = w.later; n = w.n; is = ap (λ z. n ∷ z) w.is; right = (r, w.right); breaks = w.breaks }
+  wrong_later : (n : ℕ × Node) (ns : List (ℕ × Node)) (e : Fault) → DataRight end fs n → FirstWrong ns e → FirstWrong (n ∷ ns) e
+  wrong_later n ns e r w = record { before = n ∷ w.before; later = w.later; n = w.n; is = ap (λ z. n ∷ z) w.is; right = (r, w.right); breaks = w.breaks }
 
-  nodes-tell : {A : Type 0} (P : Outcome A → Type 0) (a : Outcome A) (ns : List (ℕ × Node)) → ((e : Fault) → First-wrong ns e → P (refused e))
-      → (All (DataRight end fs) ns → P a) → P (unless (all-checks ns) a)
-  nodes-tell P a [] bad good = good tt
-  nodes-tell P a (n ∷ ns) bad good =
+  nodes_tell : {A : Type 0} (P : Outcome A → Type 0) (a : Outcome A) (ns : List (ℕ × Node)) → ((e : Fault) → FirstWrong ns e → P (refused e))
+      → (All (DataRight end fs) ns → P a) → P (unless (all_checks ns) a)
+  nodes_tell P a [] bad good = good tt
+  nodes_tell P a (n ∷ ns) bad good =
       let r = n.1.reference in
       cond_both (ltb end (end_of r)) _ _ P
-      (λ x. bad (fault 5 3 (field_of n.1) n.0) (record { before = []; later = ns; n = n; is = refl; right = tt; breaks = data-outside (ltb-true end (end_of r) x) })) (λ x.
+      (λ x. bad (fault 5 3 (field_of n.1) n.0) (record { before = []; later = ns; n = n; is = refl; right = tt; breaks = data_outside (ltb-true end (end_of r) x) })) (λ x.
       let i : end_of r ≤ end = ltb-false end (end_of r) x in
       cond_both (overlaps r fs) _ _ P
-      (λ y. bad (fault 11 3 (field_of n.1) n.0) (record { before = []; later = ns; n = n; is = refl; right = tt; breaks = data-overlap i (not_apart r fs y) })) (λ y.
+      (λ y. bad (fault 11 3 (field_of n.1) n.0) (record { before = []; later = ns; n = n; is = refl; right = tt; breaks = data_overlap i (not_apart r fs y) })) (λ y.
       let right : DataRight end fs n = record { inside = i; apart = overlaps_apart r fs y } in
-      nodes-tell P a ns (λ e w. bad e (wrong-later n ns e right w)) (λ g. good (right, g))))
+      nodes_tell P a ns (λ e w. bad e (wrong_later n ns e right w)) (λ g. good (right, g))))
 
-  wrong-refused : {A : Type 0} (a : Outcome A) (before later : List (ℕ × Node)) (n : ℕ × Node) (e : Fault) → All (DataRight end fs) before → DataBreaks end fs n e
-      → unless (all-checks (before ++ (n ∷ later))) a ≡ refused e
-  wrong-refused a [] later n e r (data-outside l) = cond-true (ltb end (end_of n.1.reference)) _ _ (lt-ltb end (end_of n.1.reference) l)
-  wrong-refused a [] later n e r (data-overlap i k) =
+  wrong_refused : {A : Type 0} (a : Outcome A) (before later : List (ℕ × Node)) (n : ℕ × Node) (e : Fault) → All (DataRight end fs) before → DataBreaks end fs n e
+      → unless (all_checks (before ++ (n ∷ later))) a ≡ refused e
+  wrong_refused a [] later n e r (data_outside l) = cond-true (ltb end (end_of n.1.reference)) _ _ (lt-ltb end (end_of n.1.reference) l)
+  wrong_refused a [] later n e r (data_overlap i k) =
       cond-false (ltb end (end_of n.1.reference)) _ _ (le-ltb end (end_of n.1.reference) i) ∙ cond-true (overlaps n.1.reference fs) _ _ (is_not_apart n.1.reference fs k)
-  wrong-refused a (m ∷ before) later n e (p, r) w =
+  wrong_refused a (m ∷ before) later n e (p, r) w =
       cond-false (ltb end (end_of m.1.reference)) _ _ (le-ltb end (end_of m.1.reference) p.inside)
       ∙ cond-false (overlaps m.1.reference fs) _ _ (apart_overlaps m.1.reference fs p.apart.0 p.apart.1)
-      ∙ wrong-refused a before later n e r w
+      ∙ wrong_refused a before later n e r w
 
 -- what the checks of all data tell
 pub data_tells : {A : Type 0} (h : Header) (log : Log) (ls : List NodeList) (P : Outcome A → Type 0) (a : Outcome A)
-    → ((e : Fault) → First-wrong h.end (log.fragments ++ list_fragments ls) (data_nodes ls) e → P (refused e))
+    → ((e : Fault) → FirstWrong h.end (log.fragments ++ list_fragments ls) (data_nodes ls) e → P (refused e))
     → (All (DataRight h.end (log.fragments ++ list_fragments ls)) (data_nodes ls) → P a) → P (unless (all_data h log ls) a)
 data_tells h log ls P a bad good =
     let fs = log.fragments ++ list_fragments ls in
-    subst (λ cs. P (unless cs a)) (sym (checks-are h.end fs ls)) (nodes-tell h.end fs P a (data_nodes ls) bad good)
+    subst (λ cs. P (unless cs a)) (sym (checks_are h.end fs ls)) (nodes_tell h.end fs P a (data_nodes ls) bad good)
 
 pub data_refused : {A : Type 0} (h : Header) (log : Log) (ls : List NodeList) (a : Outcome A) (before later : List (ℕ × Node)) (n : ℕ × Node) (e : Fault)
     → data_nodes ls ≡ before ++ (n ∷ later) → All (DataRight h.end (log.fragments ++ list_fragments ls)) before
     → DataBreaks h.end (log.fragments ++ list_fragments ls) n e → unless (all_data h log ls) a ≡ refused e
 data_refused h log ls a before later n e q r w =
     let fs = log.fragments ++ list_fragments ls in
-    ap (λ cs. unless cs a) (checks-are h.end fs ls ∙ ap (all-checks h.end fs) q) ∙ wrong-refused h.end fs a before later n e r w
+    ap (λ cs. unless cs a) (checks_are h.end fs ls ∙ ap (all_checks h.end fs) q) ∙ wrong_refused h.end fs a before later n e r w
 
 -- data that is right, told of the spans
 pub data_fits : (end : ℕ) (fs : List Span) (ls : List NodeList) (P : Span → Type 0) → ((n : ℕ × Node) → DataRight end fs n → P n.1.reference)

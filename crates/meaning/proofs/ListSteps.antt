@@ -70,24 +70,24 @@ first_checks b count ls id f =
 
 module _ (b : List ℕ) (end count : ℕ) (ls : List NodeList) (before : List Span) (id field : ℕ) (f : Span) where
   -- the nodes of the fragment f behind the fragments fs, and what follows them
-  abbrev pub nodes-then : ℕ → List Span → List Node → Outcome NodeList
-  nodes-then n fs ns = then (nodes_at (count - length ns) b id (nodes_to f) (nodes_from f) ns) (list_goes (list_from n b end count ls before id) b id f fs)
+  abbrev pub nodes_then : ℕ → List Span → List Node → Outcome NodeList
+  nodes_then n fs ns = then (nodes_at (count - length ns) b id (nodes_to f) (nodes_from f) ns) (list_goes (list_from n b end count ls before id) b id f fs)
 
-  pub first-none : list_from zero b end count ls before id field f [] [] ≡ unless ((outside 36 end f, fault 5 3 field 0) ∷ []) (refused (fault 13 3 field 0))
+  pub first_none : list_from zero b end count ls before id field f [] [] ≡ unless ((outside 36 end f, fault 5 3 field 0) ∷ []) (refused (fault 13 3 field 0))
   unfolding list_from
-  first-none = refl
+  first_none = refl
 
   pub first_step : (n : ℕ) → list_from (suc n) b end count ls before id field f [] []
-      ≡ unless (place_checks 36 end 3 0 field before f) (unless (first_checks b count ls id f) (nodes-then n [] []))
+      ≡ unless (place_checks 36 end 3 0 field before f) (unless (first_checks b count ls id f) (nodes_then n [] []))
   unfolding list_from
   first_step n = rw (append-nil before)
 
-  pub later-none : (x : Span) (gs : List Span) (ns : List Node) → list_from zero b end count ls before id field f (x ∷ gs) ns
+  pub later_none : (x : Span) (gs : List Span) (ns : List Node) → list_from zero b end count ls before id field f (x ∷ gs) ns
       ≡ unless ((outside 36 end f, fault 5 3 field id) ∷ []) (refused (fault 13 3 field id))
   unfolding list_from
-  later-none x gs ns = let e : eqb (suc (length gs)) 0 ≡ false = grind (arith, nat_tests) in rw e
+  later_none x gs ns = let e : eqb (suc (length gs)) 0 ≡ false = grind (arith, nat_tests) in rw e
 
-  pub later-step : (n : ℕ) (x : Span) (gs : List Span) (ns : List Node) → list_from (suc n) b end count ls before id field f (x ∷ gs) ns
-      ≡ unless (place_checks 36 end 3 id field (before ++ (x ∷ gs)) f) (unless ((mislabelled b id (length (x ∷ gs)) f, fault 8 3 f.start id) ∷ []) (nodes-then n (x ∷ gs) ns))
+  pub later_step : (n : ℕ) (x : Span) (gs : List Span) (ns : List Node) → list_from (suc n) b end count ls before id field f (x ∷ gs) ns
+      ≡ unless (place_checks 36 end 3 id field (before ++ (x ∷ gs)) f) (unless ((mislabelled b id (length (x ∷ gs)) f, fault 8 3 f.start id) ∷ []) (nodes_then n (x ∷ gs) ns))
   unfolding list_from
-  later-step n x gs ns = let e : eqb (suc (length gs)) 0 ≡ false = grind (arith, nat_tests) in rw e
+  later_step n x gs ns = let e : eqb (suc (length gs)) 0 ≡ false = grind (arith, nat_tests) in rw e

@@ -21,7 +21,7 @@ use Rattle.model.specs.Laws.{MeantOpens}
 use Rattle.meaning.proofs.Base.{Clean, unless_clean, all_front, apart_overlaps, DataFits, references}
 use Rattle.meaning.proofs.Members.{In, has_from_in, in_map, in_flat, in_unflat, all_in, all_from_in, flat_all}
 use Rattle.meaning.proofs.ReadLog.{logs_read}
-use Rattle.meaning.proofs.ReadQueue.{Stock, Right, lists_read, lists_end, walked-read}
+use Rattle.meaning.proofs.ReadQueue.{Stock, Right, lists_read, lists_end, walked_read}
 
 -- header -----------------------------------------------------------------------------------------------------------
 
@@ -90,20 +90,20 @@ opened_step b = refl
 
 module _ (b : List ℕ) (h : Header) where
   -- opening goes on behind a header that is right, a log and lists
-  pub behind-header : Headed b h → opened b ≡ part_log b h
-  behind-header k = opened_step b ∙ unless_clean (header_checks b) (part_log b (header_at b)) (headed_passes b h k) ∙ ap (λ h. part_log b h) (sym k.fields)
+  pub behind_header : Headed b h → opened b ≡ part_log b h
+  behind_header k = opened_step b ∙ unless_clean (header_checks b) (part_log b (header_at b)) (headed_passes b h k) ∙ ap (λ h. part_log b h) (sym k.fields)
 
-  pub behind-log : (log : Log) → Headed b h → Logs b h log → opened b ≡ part_lists b h log
-  behind-log log k l = behind-header k ∙ ap (λ a. then a (part_lists b h)) (logs_read b h log l k.counts)
+  pub behind_log : (log : Log) → Headed b h → Logs b h log → opened b ≡ part_lists b h log
+  behind_log log k l = behind_header k ∙ ap (λ a. then a (part_lists b h)) (logs_read b h log l k.counts)
 
-  pub behind-lists : (log : Log) (ls : List NodeList) (queue : List Named) → Headed b h → Logs b h log → Walked b h log ls queue
+  pub behind_lists : (log : Log) (ls : List NodeList) (queue : List Named) → Headed b h → Logs b h log → Walked b h log ls queue
       → opened b ≡ then (lists_from (1024 - length ls) b h log queue ls) (last_part h log)
-  behind-lists log ls queue k l w = behind-log log k l ∙ ap (λ a. then a (last_part h log)) (walked-read b h log ls queue w)
+  behind_lists log ls queue k l w = behind_log log k l ∙ ap (λ a. then a (last_part h log)) (walked_read b h log ls queue w)
 
   -- and ends where the data is right
-  behind-data : (log : Log) (S T : List NodeList) → ((l : NodeList) → In l T → In l S) → All (λ r. end_of r ≤ h.end) (data_spans S)
+  behind_data : (log : Log) (S T : List NodeList) → ((l : NodeList) → In l T → In l S) → All (λ r. end_of r ≤ h.end) (data_spans S)
       → All (λ r. All (Apart r) (header_span ∷ (log.fragments ++ list_fragments S))) (data_spans S) → last_part h log T ≡ done (record { header = h; log = log; lists = T })
-  behind-data log S T k inside apart = unless_clean (all_data h log T) _ (data_clean h log S T k inside apart)
+  behind_data log S T k inside apart = unless_clean (all_data h log T) _ (data_clean h log S T k inside apart)
 
 -- the whole --------------------------------------------------------------------------------------------------------
 
@@ -131,8 +131,8 @@ means_opens b s m =
     let (T, r, k, o) = lists_read 1024 b s.header s.log s.lists [] s.lists (named_first s.header) (means_right b s m) (means_stock b s m)
     (ap (λ w. map (λ q. q.1) w) (append-nil (named_first s.header))) m.few_lists in (
       T,
-      behind-log b s.header s.log m.header m.log ∙ ap (λ a. then a (last_part s.header s.log)) r
-          ∙ behind-data b s.header s.log s.lists T k.to m.data_inside m.data_apart,
+      behind_log b s.header s.log m.header m.log ∙ ap (λ a. then a (last_part s.header s.log)) r
+          ∙ behind_data b s.header s.log s.lists T k.to m.data_inside m.data_apart,
       k,
       o,
     )
@@ -167,6 +167,6 @@ means_walked b s m i =
 -- and as s itself, if its lists stand in that order
 pub means_opens_in_order : (b : List ℕ) (s : Section) → Means b s → InOrder s.header s.lists → opened b ≡ done s
 means_opens_in_order b s m i =
-    behind-lists b s.header s.log s.lists [] m.header m.log (means_walked b s m i)
+    behind_lists b s.header s.log s.lists [] m.header m.log (means_walked b s m i)
     ∙ ap (λ a. then a (last_part s.header s.log)) (lists_end (1024 - length s.lists) b s.header s.log s.lists)
-    ∙ behind-data b s.header s.log s.lists s.lists (λ l i. i) m.data_inside m.data_apart
+    ∙ behind_data b s.header s.log s.lists s.lists (λ l i. i) m.data_inside m.data_apart

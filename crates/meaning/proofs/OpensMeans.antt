@@ -20,8 +20,8 @@ use Rattle.meaning.proofs.Base.{Clean, unless_tells}
 use Rattle.meaning.proofs.Members.{has_from_in, in_from_has, in_map, all_in, all_from_in}
 use Rattle.meaning.proofs.ReadQueue.{spans}
 use Rattle.meaning.proofs.MeantOpens.{opened_step, means_opens, meant_opens, means_opens_in_order}
-use Rattle.meaning.proofs.TellLog.{Log-tells, log_told}
-use Rattle.meaning.proofs.TellQueue.{Broken-next, Lists-tell, lists-told}
+use Rattle.meaning.proofs.TellLog.{LogTells, log_told}
+use Rattle.meaning.proofs.TellQueue.{BrokenNext, ListsTell, lists_told}
 use Rattle.meaning.proofs.DataChecks.{data_tells, data_fits}
 
 -- header -----------------------------------------------------------------------------------------------------------
@@ -67,8 +67,8 @@ Tells b (done s) = Means b s × InOrder s.header s.lists
 Tells b (refused f) = Breaks b f
 
 module _ (b : List ℕ) (h : Header) (headed : Headed b h) where
-  last-tells : (log : Log) (ls : List NodeList) → Logs b h log → Walked b h log ls [] → Tells b (last_part h log ls)
-  last-tells log ls logs w =
+  last_tells : (log : Log) (ls : List NodeList) → Logs b h log → Walked b h log ls [] → Tells b (last_part h log ls)
+  last_tells log ls logs w =
       let fs = log.fragments ++ list_fragments ls in
       let order : InOrder h ls = sym (w.order ∙ append-nil (map first_of ls)) in
       data_tells h log ls (Tells b) _ (λ e d. in_data h log ls d.before d.later d.n headed logs w d.is d.right d.breaks) (λ r. (
@@ -89,19 +89,19 @@ module _ (b : List ℕ) (h : Header) (headed : Headed b h) where
         order,
       ))
 
-  broken-next : (log : Log) (e : Fault) → Logs b h log → Broken-next b h log e → Breaks b e
-  broken-next log e logs n = elim n.breaks [
+  broken_next : (log : Log) (e : Fault) → Logs b h log → BrokenNext b h log e → Breaks b e
+  broken_next log e logs n = elim n.breaks [
     | inl x ↦ in_first h log n.ls n.q n.qs headed logs n.walked x
     | inr x ↦ in_list h log n.ls n.q n.qs headed logs n.walked x
   ]
 
-  lists-tell : (log : Log) (a : Outcome (List NodeList)) → Logs b h log → Lists-tell b h log a → Tells b (then a (last_part h log))
-  lists-tell log (done ls) logs w = last-tells log ls logs w
-  lists-tell log (refused e) logs n = broken-next log e logs n
+  lists_tell : (log : Log) (a : Outcome (List NodeList)) → Logs b h log → ListsTell b h log a → Tells b (then a (last_part h log))
+  lists_tell log (done ls) logs w = last_tells log ls logs w
+  lists_tell log (refused e) logs n = broken_next log e logs n
 
-  log-tells : (a : Outcome Log) → Log-tells b h a → Tells b (then a (part_lists b h))
-  log-tells (done log) logs = lists-tell log (lists_from 1024 b h log (named_first h) []) logs (lists-told b h log logs)
-  log-tells (refused e) w = in_log h headed w
+  log_tells : (a : Outcome Log) → LogTells b h a → Tells b (then a (part_lists b h))
+  log_tells (done log) logs = lists_tell log (lists_from 1024 b h log (named_first h) []) logs (lists_told b h log logs)
+  log_tells (refused e) w = in_log h headed w
 
 pub opened_tells : (b : List ℕ) → Tells b (opened b)
 opened_tells b =
@@ -109,7 +109,7 @@ opened_tells b =
     subst (Tells b) (sym (opened_step b)) (unless_tells (Tells b) (header_checks b) (part_log b h)
     (λ f w. in_header w.before w.later w.clean w.is) (λ c.
     let headed = passes_headed b c in
-    log-tells b h headed (log_from 2048 b h [] 0xA0 h.log (reading [] [])) (log_told b h refl headed.counts)))
+    log_tells b h headed (log_from 2048 b h [] 0xA0 h.log (reading [] [])) (log_told b h refl headed.counts)))
 
 pub opens_means : (b : List ℕ) (s : Section) → opened b ≡ done s → Means b s × InOrder s.header s.lists
 opens_means b s e = subst (Tells b) e (opened_tells b)

@@ -9,7 +9,7 @@ use Rattle.model.specs.Headers.{header_span}
 use Rattle.model.specs.OpenedLog.{outside, overlaps}
 use Rattle.model.specs.Means.{Apart, Inside}
 use Rattle.model.specs.Breaks.{Misplaced, Placed}
-use Rattle.model.specs.Breaks.Misplaced.{outside as is-outside, full, overlap}
+use Rattle.model.specs.Breaks.Misplaced.{outside as is_outside, full, overlap}
 use Rattle.meaning.proofs.Base.{inside_passes, inside, apart_overlaps, overlaps_apart}
 
 -- a test that is true where its rule is broken
@@ -37,38 +37,38 @@ place_checks least end layer list field before f = (outside least end f, fault 5
 
 module _ (least end layer list field : ℕ) (before : List Span) (f : Span) where
   -- a place is misplaced, or right
-  pub place-tells : {A : Type 0} (P : Outcome A → Type 0) (a : Outcome A) → 1 ≤ least → length before < 2048
+  pub place_tells : {A : Type 0} (P : Outcome A → Type 0) (a : Outcome A) → 1 ≤ least → length before < 2048
       → ((e : Fault) → Misplaced least end layer list field before f e → P (refused e)) → (Placed least end before f → P a)
       → P (unless (place_checks least end layer list field before f) a)
-  place-tells P a o room bad good =
-      cond_both (outside least end f) _ _ P (λ x. bad (fault 5 layer field list) (is-outside (not_inside least end f o x))) (λ x.
+  place_tells P a o room bad good =
+      cond_both (outside least end f) _ _ P (λ x. bad (fault 5 layer field list) (is_outside (not_inside least end f o x))) (λ x.
       let i = inside least end f x in
       cond_both (overlaps f before) _ _ P (λ y. bad (fault 11 layer field list) (overlap i room (not_apart f before y))) (λ y.
       good (record { inside = i; room = room; apart = overlaps_apart f before y })))
 
   -- where no fragment may come, it is misplaced
-  pub full-tells : {A : Type 0} (P : Outcome A → Type 0) → 1 ≤ least → 2048 ≤ length before
+  pub full_tells : {A : Type 0} (P : Outcome A → Type 0) → 1 ≤ least → 2048 ≤ length before
       → ((e : Fault) → Misplaced least end layer list field before f e → P (refused e))
       → P (unless ((outside least end f, fault 5 layer field list) ∷ []) (refused (fault 13 layer field list)))
-  full-tells P o room bad =
-      cond_both (outside least end f) _ _ P (λ x. bad (fault 5 layer field list) (is-outside (not_inside least end f o x))) (λ x.
+  full_tells P o room bad =
+      cond_both (outside least end f) _ _ P (λ x. bad (fault 5 layer field list) (is_outside (not_inside least end f o x))) (λ x.
       bad (fault 13 layer field list) (full (inside least end f x) room))
 
-  pub misplaced-refused : {A : Type 0} (a : Outcome A) (e : Fault) → 1 ≤ least → length before < 2048 → Misplaced least end layer list field before f e
+  pub misplaced_refused : {A : Type 0} (a : Outcome A) (e : Fault) → 1 ≤ least → length before < 2048 → Misplaced least end layer list field before f e
       → unless (place_checks least end layer list field before f) a ≡ refused e
-  misplaced-refused a e o room (is-outside n) = cond-true (outside least end f) _ _ (is_not_inside least end f n)
-  misplaced-refused a e o room (full i r) = absurd (omega arith)
-  misplaced-refused a e o room (overlap i r n) =
+  misplaced_refused a e o room (is_outside n) = cond-true (outside least end f) _ _ (is_not_inside least end f n)
+  misplaced_refused a e o room (full i r) = absurd (omega arith)
+  misplaced_refused a e o room (overlap i r n) =
       cond-false (outside least end f) _ _ (inside_passes least end f o i) ∙ cond-true (overlaps f before) _ _ (is_not_apart f before n)
 
-  pub full-refused : {A : Type 0} (e : Fault) → 1 ≤ least → 2048 ≤ length before → Misplaced least end layer list field before f e
+  pub full_refused : {A : Type 0} (e : Fault) → 1 ≤ least → 2048 ≤ length before → Misplaced least end layer list field before f e
       → unless {A = A} ((outside least end f, fault 5 layer field list) ∷ []) (refused (fault 13 layer field list)) ≡ refused e
-  full-refused e o room (is-outside n) = cond-true (outside least end f) _ _ (is_not_inside least end f n)
-  full-refused e o room (full i r) = cond-false (outside least end f) _ _ (inside_passes least end f o i)
-  full-refused e o room (overlap i r n) = absurd (omega arith)
+  full_refused e o room (is_outside n) = cond-true (outside least end f) _ _ (is_not_inside least end f n)
+  full_refused e o room (full i r) = cond-false (outside least end f) _ _ (inside_passes least end f o i)
+  full_refused e o room (overlap i r n) = absurd (omega arith)
 
   -- a place that is right passes
-  pub placed-passes : {A : Type 0} (a : Outcome A) → 1 ≤ least → Placed least end before f → unless (place_checks least end layer list field before f) a ≡ a
-  placed-passes a o p =
+  pub placed_passes : {A : Type 0} (a : Outcome A) → 1 ≤ least → Placed least end before f → unless (place_checks least end layer list field before f) a ≡ a
+  placed_passes a o p =
       cond-false (outside least end f) _ _ (inside_passes least end f o p.inside)
       ∙ cond-false (overlaps f before) _ _ (apart_overlaps f before p.apart.0 p.apart.1)

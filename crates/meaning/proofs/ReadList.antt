@@ -16,7 +16,7 @@ use Rattle.model.specs.OpenedLists.{counted, uncounted, nodes_at, taken, list_fr
 use Rattle.model.specs.Means.{Apart, Pairwise, Inside, Nodes, Spread, within, across, Marked, Numbered, Stands}
 use Rattle.meaning.proofs.GoodNodes.{good_stays, good_passes}
 use Rattle.meaning.proofs.Base.{Clean, unless_clean, inside_passes, apart_overlaps, apart_before}
-use Rattle.meaning.proofs.ListSteps.{nodes-then, from_node, marked_passes}
+use Rattle.meaning.proofs.ListSteps.{nodes_then, from_node, marked_passes}
 
 -- nodes ------------------------------------------------------------------------------------------------------------
 
@@ -68,11 +68,11 @@ Far count read last q = (read < count) ⊎ ((read ≡ count) × (nodes_from last
 
 module _ (b : List ℕ) (end count : ℕ) (ls : List NodeList) (before : List Span) (id : ℕ) (real : 16 ≤ id) (new : taken id ls ≡ false) (some : 1 ≤ count) where
   -- a fragment that is right is entered
-  list-enters : (n field : ℕ) (f : Span) (fs gs : List Span) (ns : List Node)
+  list_enters : (n field : ℕ) (f : Span) (fs gs : List Span) (ns : List Node)
       → Inside 36 end f → Marked b id (length fs) f → Pairwise Apart (header_span ∷ ((before ++ fs) ++ (f ∷ gs)))
-      → list_from (suc n) b end count ls before id field f fs ns ≡ nodes-then b end count ls before id field f n fs ns
+      → list_from (suc n) b end count ls before id field f fs ns ≡ nodes_then b end count ls before id field f n fs ns
   unfolding list_from
-  list-enters n field f fs gs ns i m a =
+  list_enters n field f fs gs ns i m a =
       let p = apart_before (header_span ∷ (before ++ fs)) f gs a in
       let z : eqb count 0 ≡ false = grind (arith, nat_tests) in
       let clean : Clean (list_checks b end count ls before id field f fs) = (
@@ -84,19 +84,19 @@ module _ (b : List ℕ) (end count : ℕ) (ls : List NodeList) (before : List Sp
       ) in
       unless_clean (list_checks b end count ls before id field f fs) _ clean
 
-  pub list-walks : (n m field : ℕ) (f : Span) (gs fs : List Span) (ns ms : List Node) (q : ℕ)
+  pub list_walks : (n m field : ℕ) (f : Span) (gs fs : List Span) (ns ms : List Node) (q : ℕ)
       → Spread b (f ∷ gs) ms q → All (Inside 36 end) (f ∷ gs) → Numbered b id (length fs) (f ∷ gs)
       → Pairwise Apart (header_span ∷ ((before ++ fs) ++ (f ∷ gs))) → Far count (length ns + length ms) (last_of f gs) q → n ≡ length (f ∷ gs) + m
       → (front : List Span) × (front ++ (last_of f gs ∷ []) ≡ fs ++ (f ∷ gs)) × (list_from n b end count ls before id field f fs ns ≡ from_node b end count ls before id m front (last_of f gs) (ns ++ ms) q)
-  list-walks zero m field f gs fs ns ms q s i k a c l = absurd (omega arith)
-  list-walks (suc n) m field f [] fs ns ms q (within w) i k a c l =
+  list_walks zero m field f gs fs ns ms q s i k a c l = absurd (omega arith)
+  list_walks (suc n) m field f [] fs ns ms q (within w) i k a c l =
       let x : n ≡ m = omega arith in
       let y = length-append ns ms in
       let u : length ns + length ms ≤ count = far c in
       let v : count - length ns - length ms ≡ count - length (ns ++ ms) = omega arith in (
         fs,
         refl,
-        list-enters n field f fs [] ns i.0 k.0 a
+        list_enters n field f fs [] ns i.0 k.0 a
             ∙ ap (λ z. then z (list_goes (list_from n b end count ls before id) b id f fs)) (nodes_through (count - length ns) b id (nodes_to f) (nodes_from f) ns ms q w (omega arith)
             ∙ ap (λ z. nodes_at z b id (nodes_to f) q (ns ++ ms)) v)
             ∙ ap (λ z. from_node b end count ls before id z fs f (ns ++ ms) q) x,
@@ -105,17 +105,17 @@ module _ (b : List ℕ) (end count : ℕ) (ls : List NodeList) (before : List Sp
       far : (length ns + length ms < count) ⊎ ((length ns + length ms ≡ count) × (nodes_from f < q)) → length ns + length ms ≤ count
       far (inl x) = omega arith
       far (inr x) = omega arith
-  list-walks (suc n) m field f (g ∷ gs) fs ns ms q (across ks js p w h e s split) i k a c l =
+  list_walks (suc n) m field f (g ∷ gs) fs ns ms q (across ks js p w h e s split) i k a c l =
       let long : length ms ≡ length ks + length js = ap length split ∙ length-append ks js in
       let long' : length (ns ++ ks) ≡ length ns + length ks = length-append ns ks in
       let num : Numbered b id (length (fs ++ (f ∷ []))) (g ∷ gs) = subst (λ x. Numbered b id x (g ∷ gs)) (sym (length_push fs f)) k.1 in
       let apart : Pairwise Apart (header_span ∷ ((before ++ (fs ++ (f ∷ []))) ++ (g ∷ gs)))
       = subst (λ x. Pairwise Apart (header_span ∷ x)) (sym (append_assoc (before ++ fs) (f ∷ []) (g ∷ gs)) ∙ ap (λ x. x ++ (g ∷ gs)) (append_assoc before fs (f ∷ []))) a in
       let (short, far) = goes_on ks js c s (omega arith) in
-      let (front, last, walk) = list-walks n m (nodes_to f) g gs (fs ++ (f ∷ [])) (ns ++ ks) js q s i.1 num apart far (omega arith) in (
+      let (front, last, walk) = list_walks n m (nodes_to f) g gs (fs ++ (f ∷ [])) (ns ++ ks) js q s i.1 num apart far (omega arith) in (
         front,
         last ∙ append_assoc fs (f ∷ []) (g ∷ gs),
-        list-enters n field f fs (g ∷ gs) ns i.0 k.0 a
+        list_enters n field f fs (g ∷ gs) ns i.0 k.0 a
             ∙ ap (λ z. then z (list_goes (list_from n b end count ls before id) b id f fs)) (nodes_through (count - length ns) b id (nodes_to f) (nodes_from f) ns ks p w (omega arith)
             ∙ nodes_handed (count - length ns - length ks) b id (nodes_to f) p (ns ++ ks) (omega arith) h)
             ∙ ap (λ (x : Span). list_from n b end count ls before id (nodes_to f) x (fs ++ (f ∷ [])) (ns ++ ks)) (sym e) ∙ walk
@@ -140,7 +140,7 @@ stands_with n b h log ls before id field (f ∷ fs) ms q s a t l =
     let some = spread_some b f fs ms q s.part.spread s.ends in
     let c : length ms ≡ count = s.counted in
     let m = n - length (f ∷ fs) in
-    let (front, last, walk) = list-walks b h.end count ls before id s.part.real t (omega arith) n m field f fs [] [] ms q s.part.spread s.part.inside s.part.marks
+    let (front, last, walk) = list_walks b h.end count ls before id s.part.real t (omega arith) n m field f fs [] [] ms q s.part.spread s.part.inside s.part.marks
     (subst (λ x. Pairwise Apart (header_span ∷ (x ++ (f ∷ fs)))) (sym (append-nil before)) a) (inr (omega arith, s.ends)) (omega arith) in
     walk ∙ ap (λ z. then z (list_goes (list_from m b h.end count ls before id) b id (last_of f fs) front)) (nodes_over (count - length ms) b id (nodes_to (last_of f fs)) q ms (omega arith))
     ∙ ap (λ z. done (list_is id z ms q)) last

@@ -216,7 +216,7 @@ pub log_part_read : (b : List ℕ) (h : Header) (fs : List Span) (used : ℕ) (t
     × (log_from 2048 b h [] 0xA0 h.log (reading [] []) ≡ from_entry (2048 - length fs) b h front (last_of (span 0 0) fs) used (reading ts pending))
 log_part_read b h [] used ts pending p s c = absurd (omega arith)
 log_part_read b h (f ∷ gs) used ts pending p s c =
-    let (t, us, e) = first-of-push ts pending in
+    let (t, us, e) = first_of_push ts pending in
     let few = p.few in
     let long = length_push ts pending in
     let all : Rising [] (flat (t ∷ us)) = subst (λ z. Rising [] z) (sym (flat_push ts pending) ∙ ap flat e) p.rising in
@@ -239,9 +239,9 @@ log_part_read b h (f ∷ gs) used ts pending p s c =
           ∙ ap (λ z. from_entry (2048 - length (f ∷ gs)) b h front (last_of f gs) used (reading ts z)) g,
     )
   where
-    first-of-push : {X : Type 0} (xs : List X) (x : X) → (y : X) × (ys : List X) × (xs ++ (x ∷ []) ≡ y ∷ ys)
-    first-of-push [] x = (x, [], refl)
-    first-of-push (y ∷ ys) x = (y, ys ++ (x ∷ []), refl)
+    first_of_push : {X : Type 0} (xs : List X) (x : X) → (y : X) × (ys : List X) × (xs ++ (x ∷ []) ≡ y ∷ ys)
+    first_of_push [] x = (x, [], refl)
+    first_of_push (y ∷ ys) x = (y, ys ++ (x ∷ []), refl)
 
     -- one entry is left: a sentinel
     nothing_left : (pending t : List Entry) (us : List (List Entry)) (e : Entry) → e ∷ [] ≡ left pending t us → (t ≡ []) × (us ≡ [])

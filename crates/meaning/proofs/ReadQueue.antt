@@ -137,17 +137,17 @@ lists_end n b h log ls = refl
 next_read : (b : List ℕ) (h : Header) (log : Log) (ls rest : List NodeList) (q : Named) (l : NodeList)
     → Pairwise (λ l m. l.id ≢ m.id) (ls ++ (l ∷ rest)) → Pairwise Apart (header_span ∷ (log.fragments ++ list_fragments (ls ++ (l ∷ rest))))
     → length (log.fragments ++ list_fragments (ls ++ (l ∷ rest))) ≤ 2048 → Stands b h log l → first_of l ≡ q.1 → named_list b h log ls q (owner b q.1) ≡ done l
-next_read b h log ls rest q l ids fs-apart fs-few s e =
+next_read b h log ls rest q l ids fs_apart fs_few s e =
     let before = log.fragments ++ list_fragments ls in
     let id : owner b q.1 ≡ l.id = ap (λ f. owner b f) (sym e) ∙ owner_first b h log l s in
     let whole : log.fragments ++ list_fragments (ls ++ (l ∷ rest)) ≡ (before ++ l.fragments) ++ list_fragments rest
     = ap (λ w. log.fragments ++ w) (flat_append (λ l. l.fragments) ls (l ∷ rest)) ∙ sym (append_assoc log.fragments (list_fragments ls) (l.fragments ++ list_fragments rest))
     ∙ sym (append_assoc before l.fragments (list_fragments rest)) in
     let apart : Pairwise Apart (header_span ∷ (before ++ l.fragments))
-    = (pairs_split Apart (header_span ∷ (before ++ l.fragments)) (list_fragments rest) (subst (λ w. Pairwise Apart (header_span ∷ w)) whole fs-apart)).0 in
+    = (pairs_split Apart (header_span ∷ (before ++ l.fragments)) (list_fragments rest) (subst (λ w. Pairwise Apart (header_span ∷ w)) whole fs_apart)).0 in
     let new : taken l.id ls ≡ false
     = not_taken l.id ls (cross_one (λ l m. l.id ≢ m.id) ls rest l (pairs_split (λ l m. l.id ≢ m.id) ls (l ∷ rest) ids).2) in
-    let few : length ((before ++ l.fragments) ++ list_fragments rest) ≤ 2048 = subst (λ w. length w ≤ 2048) whole fs-few in
+    let few : length ((before ++ l.fragments) ++ list_fragments rest) ≤ 2048 = subst (λ w. length w ≤ 2048) whole fs_few in
     let x = length-append (before ++ l.fragments) (list_fragments rest) in
     let y = length-append before l.fragments in
     ap (λ i. named_list b h log ls q i) id
@@ -254,19 +254,19 @@ order_more h ls q qs l o e =
 -- where nothing is left in the queue, each reached list is read
 module _ (b : List ℕ) (h : Header) (log : Log) (S ls rest : List NodeList) (stands : All (Stands b h log) S) (ids : Pairwise (λ l m. l.id ≢ m.id) (ls ++ rest))
     (from : (l : NodeList) → In l S → In l (ls ++ rest)) (to : (l : NodeList) → In l (ls ++ rest) → In l S) (o : Order h ls []) where
-  id-of : (l : NodeList) → In l S → owner b (first_of l) ≡ l.id
-  id-of l i = owner_first b h log l (all_in (λ m. Stands b h log m) S l stands i)
+  id_of : (l : NodeList) → In l S → owner b (first_of l) ≡ l.id
+  id_of l i = owner_first b h log l (all_in (λ m. Stands b h log m) S l stands i)
 
-  reached-read : (r : Span) → Reached h S r → In r (map first_of ls)
-  reached-read r (by_header x) =
+  reached_read : (r : Span) → Reached h S r → In r (map first_of ls)
+  reached_read r (by_header x) =
       let (q, i, e) = in_unmap (λ (q : Named). q.1) (named_first h) r (in_from_has (spans (named_first h)) r x) in
       let j : In r (spans (named_in h ls)) = subst (λ w. In w (spans (named_in h ls))) e (in_map (λ (q : Named). q.1) (named_in h ls) q (in_left (named_first h) (flat (map named_by ls)) q i)) in
       subst (λ w. In r w) (o ∙ append-nil (map first_of ls)) j
-  reached-read r (by_node {l = l} x y z) =
-      let (m, i, e) = in_unmap first_of ls (first_of l) (reached-read (first_of l) y) in
+  reached_read r (by_node {l = l} x y z) =
+      let (m, i, e) = in_unmap first_of ls (first_of l) (reached_read (first_of l) y) in
       let inl' : In l S = in_from_has S l x in
       let inm : In m S = to m (in_left ls rest m i) in
-      let id : m.id ≡ l.id = sym (id-of m inm) ∙ ap (λ f. owner b f) e ∙ id-of l inl' in
+      let id : m.id ≡ l.id = sym (id_of m inm) ∙ ap (λ f. owner b f) e ∙ id_of l inl' in
       let same : m ≡ l = same_by_key (λ (l : NodeList). l.id) (ls ++ rest) m l ids (in_left ls rest m i) (from l inl') id in
       let i' : In l ls = subst (λ w. In w ls) same i in
       let (q, j, w) = in_unmap (λ (q : Named). q.1) (named_by l) r (in_from_has (spans (named_by l)) r z) in
@@ -280,7 +280,7 @@ all_read : (b : List ℕ) (h : Header) (log : Log) (S ls rest : List NodeList) �
 all_read b h log S ls [] stands reached ids from to o = refl
 all_read b h log S ls (l ∷ rest) stands reached ids from to o =
     let i : In l S = to l (in_right ls (l ∷ rest) l (inl refl)) in
-    let (m, j, e) = in_unmap first_of ls (first_of l) (reached-read b h log S ls (l ∷ rest) stands ids from to o (first_of l) (all_in (λ l. Reached h S (first_of l)) S l reached i)) in
+    let (m, j, e) = in_unmap first_of ls (first_of l) (reached_read b h log S ls (l ∷ rest) stands ids from to o (first_of l) (all_in (λ l. Reached h S (first_of l)) S l reached i)) in
     let inm : In m S = to m (in_left ls (l ∷ rest) m j) in
     let id : m.id ≡ l.id = sym (owner_first b h log m (all_in (λ m. Stands b h log m) S m stands inm)) ∙ ap (λ f. owner b f) e
     ∙ owner_first b h log l (all_in (λ m. Stands b h log m) S l stands i) in
@@ -373,7 +373,7 @@ module _ (b : List ℕ) (h : Header) (log : Log) (T : List NodeList) (queue : Li
       ∙ walked_on n m (ls ++ (r ∷ [])) rest (qs ++ named_by r) (append_assoc ls (r ∷ []) rest ∙ e) (order_more h ls q qs r o first) (fields_more h ls q qs r f) (omega arith)
 
   -- the lists T are read, and then the queue
-  pub walked-read : lists_from 1024 b h log (named_first h) [] ≡ lists_from (1024 - length T) b h log queue T
-  walked-read =
+  pub walked_read : lists_from 1024 b h log (named_first h) [] ≡ lists_from (1024 - length T) b h log queue T
+  walked_read =
       let few = w.few_lists in
       walked_on 1024 (1024 - length T) [] T (named_first h) refl (ap spans (append-nil (named_first h))) (sym (append-nil (named_first h))) (omega arith)

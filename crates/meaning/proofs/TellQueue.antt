@@ -15,12 +15,12 @@ use Rattle.model.specs.OpenedLog.{outside}
 use Rattle.model.specs.OpenedLists.{Named, named_by, named_first, named_list, lists_from}
 use Rattle.model.specs.Means.{Apart, Pairwise, Stands, Logs, named_in, Reached, by_header, by_node}
 use Rattle.model.specs.Breaks.{Walked}
-use Rattle.model.specs.Breaks.FirstBreaks.{outside as first-outside, full as first-full}
+use Rattle.model.specs.Breaks.FirstBreaks.{outside as first_outside, full as first_full}
 use Rattle.meaning.proofs.Base.{pairs_join, inside}
 use Rattle.meaning.proofs.Members.{In, has_from_in, in_from_has, in_left, in_right, in_cases, in_map, in_unflat, all_in, all_from_in, flat_append}
 use Rattle.meaning.proofs.Places.{not_inside}
 use Rattle.meaning.proofs.ReadQueue.{spans, order_more, fields_more}
-use Rattle.meaning.proofs.TellList.{Fits, Named-breaks, List-tells, list_told}
+use Rattle.meaning.proofs.TellList.{Fits, NamedBreaks, ListTells, list_told}
 
 -- what is named is reached
 named_reached : (h : Header) (ls : List NodeList) (q : Named) → All (λ l. Reached h ls (first_of l)) ls → In q (named_in h ls) → Reached h ls q.1
@@ -74,8 +74,8 @@ module _ (b : List ℕ) (h : Header) (log : Log) where
         lists = All-append (Stands b h log) ls (l ∷ []) w.lists (f.stands, tt);
         reached = All-append (λ m. Reached h (ls ++ (l ∷ [])) (first_of m)) ls (l ∷ [])
             (All-weaker (λ m. Reached h ls (first_of m)) (λ m. Reached h (ls ++ (l ∷ [])) (first_of m)) (λ m r. reached_more h ls (l ∷ []) (first_of m) r) ls w.reached)
-            (subst (λ z. Reached h (ls ++ (l ∷ [])) z) (sym f.is-first) (reached_more h ls (l ∷ []) q.1 here), tt);
-        order = order_more h ls q qs l w.order f.is-first;
+            (subst (λ z. Reached h (ls ++ (l ∷ [])) z) (sym f.is_first) (reached_more h ls (l ∷ []) q.1 here), tt);
+        order = order_more h ls q qs l w.order f.is_first;
         fields = fields_more h ls q qs l w.fields;
         ids_differ = ids_push ls l w.ids_differ f.new;
         apart = subst (λ z. Pairwise Apart (header_span ∷ z)) (fragments_push log ls l) f.apart;
@@ -84,36 +84,36 @@ module _ (b : List ℕ) (h : Header) (log : Log) where
       }
 
   -- the list that q names breaks a rule
-  pub record Broken-next (e : Fault) : Type 0 where
+  pub record BrokenNext (e : Fault) : Type 0 where
     pub ls : List NodeList
     pub q : Named
     pub qs : List Named
     pub walked : Walked b h log ls (q ∷ qs)
-    pub breaks : Named-breaks b h log ls q.1 q.0 e
+    pub breaks : NamedBreaks b h log ls q.1 q.0 e
 
-  abbrev pub Lists-tell : Outcome (List NodeList) → Type 0
-  Lists-tell (done g) = Walked b h log g []
-  Lists-tell (refused e) = Broken-next e
+  abbrev pub ListsTell : Outcome (List NodeList) → Type 0
+  ListsTell (done g) = Walked b h log g []
+  ListsTell (refused e) = BrokenNext e
 
-  next-tell : (ls : List NodeList) (q : Named) (qs : List Named) (a : Outcome NodeList) (k : NodeList → Outcome (List NodeList)) → Walked b h log ls (q ∷ qs)
-      → List-tells b h log ls q.1 q.0 a → ((l : NodeList) → Fits b h log ls q.1 l → Lists-tell (k l)) → Lists-tell (then a k)
-  next-tell ls q qs (done l) k w t f = f l t
-  next-tell ls q qs (refused e) k w t f = record { ls = ls; q = q; qs = qs; walked = w; breaks = t }
+  next_tell : (ls : List NodeList) (q : Named) (qs : List Named) (a : Outcome NodeList) (k : NodeList → Outcome (List NodeList)) → Walked b h log ls (q ∷ qs)
+      → ListTells b h log ls q.1 q.0 a → ((l : NodeList) → Fits b h log ls q.1 l → ListsTell (k l)) → ListsTell (then a k)
+  next_tell ls q qs (done l) k w t f = f l t
+  next_tell ls q qs (refused e) k w t f = record { ls = ls; q = q; qs = qs; walked = w; breaks = t }
 
-  lists-tell : (n : ℕ) (ls : List NodeList) (qs : List Named) → Walked b h log ls qs → n + length ls ≡ 1024 → Lists-tell (lists_from n b h log qs ls)
+  lists_tell : (n : ℕ) (ls : List NodeList) (qs : List Named) → Walked b h log ls qs → n + length ls ≡ 1024 → ListsTell (lists_from n b h log qs ls)
   unfolding lists_from
-  lists-tell n ls [] w l = w
-  lists-tell zero ls (q ∷ qs) w l =
-      let broken : (e : Fault) → Named-breaks b h log ls q.1 q.0 e → Broken-next e = λ e t. record { ls = ls; q = q; qs = qs; walked = w; breaks = t } in
-      cond_both (outside 36 h.end q.1) _ _ Lists-tell
-      (λ x. broken (fault 5 3 q.0 0) (inl (first-outside (omega arith) (not_inside 36 h.end q.1 (omega arith) x))))
-      (λ x. broken (fault 13 3 q.0 0) (inl (first-full (omega arith) (inside 36 h.end q.1 x))))
-  lists-tell (suc n) ls (q ∷ qs) w l =
-      next-tell ls q qs (named_list b h log ls q (owner b q.1)) (λ l. lists_from n b h log (qs ++ named_by l) (ls ++ (l ∷ []))) w
+  lists_tell n ls [] w l = w
+  lists_tell zero ls (q ∷ qs) w l =
+      let broken : (e : Fault) → NamedBreaks b h log ls q.1 q.0 e → BrokenNext e = λ e t. record { ls = ls; q = q; qs = qs; walked = w; breaks = t } in
+      cond_both (outside 36 h.end q.1) _ _ ListsTell
+      (λ x. broken (fault 5 3 q.0 0) (inl (first_outside (omega arith) (not_inside 36 h.end q.1 (omega arith) x))))
+      (λ x. broken (fault 13 3 q.0 0) (inl (first_full (omega arith) (inside 36 h.end q.1 x))))
+  lists_tell (suc n) ls (q ∷ qs) w l =
+      next_tell ls q qs (named_list b h log ls q (owner b q.1)) (λ l. lists_from n b h log (qs ++ named_by l) (ls ++ (l ∷ []))) w
       (list_told b h log ls q.1 (2048 - length (log.fragments ++ list_fragments ls)) q.0 refl (omega arith) w.apart) (λ m f.
       let x = length_push ls m in
-      lists-tell n (ls ++ (m ∷ [])) (qs ++ named_by m) (walked_more ls q qs m w (omega arith) f) (omega arith))
+      lists_tell n (ls ++ (m ∷ [])) (qs ++ named_by m) (walked_more ls q qs m w (omega arith) f) (omega arith))
 
   -- all lists
-  pub lists-told : Logs b h log → Lists-tell (lists_from 1024 b h log (named_first h) [])
-  lists-told g = lists-tell 1024 [] (named_first h) (walked_none g) (omega arith)
+  pub lists_told : Logs b h log → ListsTell (lists_from 1024 b h log (named_first h) [])
+  lists_told g = lists_tell 1024 [] (named_first h) (walked_none g) (omega arith)

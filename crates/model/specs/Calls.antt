@@ -78,13 +78,13 @@ in_draft d draft (Some adds) k =
 abbrev pub list_of : Add → ℕ
 list_of (plain list id payload) = list
 list_of (with_data list id payload content) = list
-list_of (branch list id payload first-id first-payload) = list
+list_of (branch list id payload first_id first_payload) = list
 
 -- 18 size: a node over 988 bytes (with 4 for its head and 12 for a reference), data empty or over 65,536
 abbrev pub too_large : Add → Bool
 too_large (plain list id payload) = nat_lt 988 (4 + length payload)
 too_large (with_data list id payload content) = nat_lt 988 (16 + length payload) || length content == 0 || nat_lt 65536 (length content)
-too_large (branch list id payload first-id first-payload) = nat_lt 988 (16 + length payload) || nat_lt 988 (4 + length first-payload)
+too_large (branch list id payload first_id first_payload) = nat_lt 988 (16 + length payload) || nat_lt 988 (4 + length first_payload)
 
 -- 19 kind: a node ID of 0, 0x0FF or over 0x3FF
 abbrev pub bad_id : ℕ → Bool
@@ -93,7 +93,7 @@ bad_id id = id == 0 || id == 0xFF || nat_lt 0x3FF id
 abbrev pub bad_ids : Add → Bool
 bad_ids (plain list id payload) = bad_id id
 bad_ids (with_data list id payload content) = bad_id id
-bad_ids (branch list id payload first-id first-payload) = bad_id id || bad_id first-id
+bad_ids (branch list id payload first_id first_payload) = bad_id id || bad_id first_id
 
 -- 24 ceiling: a new end past the ceiling or 2^40
 abbrev pub past_ceiling : ℕ → ℕ → ℕ → Bool
@@ -116,7 +116,7 @@ add_checks ceiling before a =
 abbrev pub add_answer : Layout → Add → Answer
 add_answer after (plain list id payload) = added
 add_answer after (with_data list id payload content) = added
-add_answer after (branch list id payload first-id first-payload) = made after.highest
+add_answer after (branch list id payload first_id first_payload) = made after.highest
 
 -- ---- commit
 

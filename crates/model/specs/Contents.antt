@@ -39,9 +39,9 @@ held b id = held_in b (opened b) id
 abbrev pub saved_by : Layout → Add → ℕ → List Content
 saved_by y (plain list id payload) whose = cond (list == whose) (content_of id 0 None payload [] ∷ []) []
 saved_by y (with_data list id payload content) whose = cond (list == whose) (content_of id 1 (Some (span y.end (length content))) payload content ∷ []) []
-saved_by y (branch list id payload first-id first-payload) whose =
+saved_by y (branch list id payload first_id first_payload) whose =
     cond (list == whose) (content_of id 2 (Some (span y.end 1024)) payload [] ∷ [])
-    (cond (y.highest + 1 == whose) (content_of first-id 0 None first-payload [] ∷ []) [])
+    (cond (y.highest + 1 == whose) (content_of first_id 0 None first_payload [] ∷ []) [])
 
 unfoldable pub saved : Layout → List Add → ℕ → List Content
 saved y [] whose = []

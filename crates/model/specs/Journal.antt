@@ -10,7 +10,7 @@ use Rattle.model.specs.Calls.{State, Call, open_file, begin, add, commit, abando
 abbrev pub FitAdd : Add → Type 0
 FitAdd (plain list id payload) = Bytes payload
 FitAdd (with_data list id payload content) = Bytes payload × Bytes content
-FitAdd (branch list id payload first-id first-payload) = Bytes payload × Bytes first-payload
+FitAdd (branch list id payload first_id first_payload) = Bytes payload × Bytes first_payload
 
 abbrev pub Fit : Call → Type 0
 Fit (open_file mark) = Unit {0}

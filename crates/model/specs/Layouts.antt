@@ -8,7 +8,7 @@ use Rattle.model.specs.Section.{NodeList, Section, flat, last_of, fragments_of}
 pub data Add : Type 0 where
   plain : (list id : ℕ) (payload : List ℕ) → Add
   with_data : (list id : ℕ) (payload content : List ℕ) → Add
-  branch : (list id : ℕ) (payload : List ℕ) (first-id : ℕ) (first-payload : List ℕ) → Add
+  branch : (list id : ℕ) (payload : List ℕ) (first_id : ℕ) (first_payload : List ℕ) → Add
 
 -- the end of a list: its last fragment and that one's number in the list, the place behind its last node, and its count
 pub record Tail : Type 0 where

@@ -13,13 +13,13 @@ use Rattle.model.specs.Opened.{opened}
 pub data Look : Type 0 where
   node_look : (k list index : ℕ) (buffer : List ℕ) → Look
   data_look : (k list index place size : ℕ) (buffer : List ℕ) → Look
-  alike : (k list index other-list other-index : ℕ) → Look
+  alike : (k list index other_list other_index : ℕ) → Look
 
 -- the count that a look looks back to
 abbrev pub looks_to : Look → ℕ
 looks_to (node_look k list index buffer) = k
 looks_to (data_look k list index place size buffer) = k
-looks_to (alike k list index other-list other-index) = k
+looks_to (alike k list index other_list other_index) = k
 
 pub data Seen : Type 0 where
   -- ID, BaseType, the reference unless it is absent, the payload
@@ -69,9 +69,9 @@ seen_in b s (data_look k list index place size buffer) =
     then (node_of s k list index) (λ n.
     unless ((nat_lt (data_of n).size (place + size) || nat_lt (length buffer) size, fault 27 5 0 0) ∷ [])
     (done (bytes (piece b ((data_of n).start + place) size))))
-seen_in b s (alike k list index other-list other-index) =
+seen_in b s (alike k list index other_list other_index) =
     then (node_of s k list index) (λ n.
-    then (node_of s k other-list other-index) (λ m.
+    then (node_of s k other_list other_index) (λ m.
     done (equal (n.id == m.id && same_row n.payload m.payload))))
 
 -- the bytes fill the buffer's front, no more; a refusal leaves it as it is
@@ -88,7 +88,7 @@ filled (refused f) buffer = buffer
 abbrev pub buffer_of : Look → List ℕ
 buffer_of (node_look k list index buffer) = buffer
 buffer_of (data_look k list index place size buffer) = buffer
-buffer_of (alike k list index other-list other-index) = []
+buffer_of (alike k list index other_list other_index) = []
 
 abbrev pub answered : Look → Outcome Seen → Looked
 answered l a = record { answer = a; buffer = filled a (buffer_of l) }

@@ -44,11 +44,11 @@ log_entries (suc n) b count f i r =
     let next = log_entries n b count f (i + 1) (reading ts []) in
     let ended = cond (length ts == count) (done (finished ts (i + 1))) next in
     let more = log_entries n b count f (i + 1) (reading r.transactions (r.pending ++ (e ∷ []))) in
-    let sum-differs = not (e.number == (sentinel r.pending).number) in
-    let not-above = nat_le e.number (latest e.source 0 (flat r.transactions ++ r.pending)) in
-    let at-sentinel = unless ((sum-differs, fault 6 2 p 0) ∷ []) ended in
-    let at_count = unless ((not-above, fault 7 2 p 0) ∷ []) more in
-    cond (e.source == 1) at-sentinel at_count
+    let sum_differs = not (e.number == (sentinel r.pending).number) in
+    let not_above = nat_le e.number (latest e.source 0 (flat r.transactions ++ r.pending)) in
+    let at_sentinel = unless ((sum_differs, fault 6 2 p 0) ∷ []) ended in
+    let at_count = unless ((not_above, fault 7 2 p 0) ∷ []) more in
+    cond (e.source == 1) at_sentinel at_count
 
 -- a log fragment whose reference stands at `field`, behind the fragments fs
 abbrev pub log_checks : ℕ → List Span → ℕ → Span → List Check

@@ -51,13 +51,13 @@ planned y (plain list id payload) = with_node y list (plain_node id payload)
 planned y (with_data list id payload content) =
     let piece = at_end y content in
     after_write piece (with_node (ending_at (behind piece) y) list (referring_node id 1 (span y.end (length content)) payload))
-planned y (branch list id payload first-id first-payload) =
+planned y (branch list id payload first_id first_payload) =
     let made = y.highest + 1 in
-    let first = plain_node first-id first-payload in
+    let first = plain_node first_id first_payload in
     let fresh = span y.end 1024 in
     let piece = at_end y (new_fragment made 0 first) in
-    let with-list = more_lists list (tail made fresh 0 (nodes_from fresh + length first) 1) (more_fragments (ending_at (behind piece) y)) in
-    after_write piece (with_node with-list list (referring_node id 2 fresh payload))
+    let with_list = more_lists list (tail made fresh 0 (nodes_from fresh + length first) 1) (more_fragments (ending_at (behind piece) y)) in
+    after_write piece (with_node with_list list (referring_node id 2 fresh payload))
 
 -- a file with the adds of a draft in it
 unfoldable pub laid : Layout → List Add → Layout

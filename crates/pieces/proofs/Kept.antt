@@ -49,37 +49,37 @@ freed_push free (q ∷ (r ∷ ps)) p = ap (λ xs. q ∷ xs) (freed_push free (r 
 
 -- what stands up to a place, of the list of that place
 module _ (id from : ℕ) where
-  pub low-front : (xs : List Piece) → All (λ q. up_to id from q ≡ true) xs → filter (λ q. leb q.from from) (of_list id xs) ≡ of_list id xs
-  low-front [] a = refl
-  low-front (x ∷ xs) (e, a) = let ih = low-front xs a in grind (arith, nat_tests)
+  pub low_front : (xs : List Piece) → All (λ q. up_to id from q ≡ true) xs → filter (λ q. leb q.from from) (of_list id xs) ≡ of_list id xs
+  low_front [] a = refl
+  low_front (x ∷ xs) (e, a) = let ih = low_front xs a in grind (arith, nat_tests)
 
-  pub low-back : (xs : List Piece) → All (λ q. up_to id from q ≡ false) xs → filter (λ q. leb q.from from) (of_list id xs) ≡ []
-  low-back [] a = refl
-  low-back (x ∷ xs) (e, a) = let ih = low-back xs a in grind (arith, nat_tests)
+  pub low_back : (xs : List Piece) → All (λ q. up_to id from q ≡ false) xs → filter (λ q. leb q.from from) (of_list id xs) ≡ []
+  low_back [] a = refl
+  low_back (x ∷ xs) (e, a) = let ih = low_back xs a in grind (arith, nat_tests)
 
-  pub high-front : (xs : List Piece) → All (λ q. up_to id from q ≡ true) xs → filter (λ q. not (leb q.from from)) (of_list id xs) ≡ []
-  high-front [] a = refl
-  high-front (x ∷ xs) (e, a) = let ih = high-front xs a in grind (arith, nat_tests)
+  pub high_front : (xs : List Piece) → All (λ q. up_to id from q ≡ true) xs → filter (λ q. not (leb q.from from)) (of_list id xs) ≡ []
+  high_front [] a = refl
+  high_front (x ∷ xs) (e, a) = let ih = high_front xs a in grind (arith, nat_tests)
 
-  pub high-back : (xs : List Piece) → All (λ q. up_to id from q ≡ false) xs → filter (λ q. not (leb q.from from)) (of_list id xs) ≡ of_list id xs
-  high-back [] a = refl
-  high-back (x ∷ xs) (e, a) = let ih = high-back xs a in grind (arith, nat_tests)
+  pub high_back : (xs : List Piece) → All (λ q. up_to id from q ≡ false) xs → filter (λ q. not (leb q.from from)) (of_list id xs) ≡ of_list id xs
+  high_back [] a = refl
+  high_back (x ∷ xs) (e, a) = let ih = high_back xs a in grind (arith, nat_tests)
 
   module _ (xs ys : List Piece) (front : All (λ q. up_to id from q ≡ true) xs) (back : All (λ q. up_to id from q ≡ false) ys) where
     whole : of_list id (xs ++ ys) ≡ of_list id xs ++ of_list id ys
     whole = filter-append (λ q. eqb q.list id) xs ys
 
-    pub low-whole : filter (λ q. leb q.from from) (of_list id (xs ++ ys)) ≡ of_list id xs
-    low-whole =
+    pub low_whole : filter (λ q. leb q.from from) (of_list id (xs ++ ys)) ≡ of_list id xs
+    low_whole =
         ap (filter (λ q. leb q.from from)) whole
         ∙ filter-append (λ q. leb q.from from) (of_list id xs) (of_list id ys)
-        ∙ rw (low-front xs front, low-back ys back) (append-nil (of_list id xs))
+        ∙ rw (low_front xs front, low_back ys back) (append-nil (of_list id xs))
 
-    pub high-whole : filter (λ q. not (leb q.from from)) (of_list id (xs ++ ys)) ≡ of_list id ys
-    high-whole =
+    pub high_whole : filter (λ q. not (leb q.from from)) (of_list id (xs ++ ys)) ≡ of_list id ys
+    high_whole =
         ap (filter (λ q. not (leb q.from from))) whole
         ∙ filter-append (λ q. not (leb q.from from)) (of_list id xs) (of_list id ys)
-        ∙ rw (high-front xs front, high-back ys back) refl
+        ∙ rw (high_front xs front, high_back ys back) refl
 
 -- one more at its place
 pub put_between : (p : Piece) (xs ys : List Piece) → All (λ q. up_to p.list p.from q ≡ true) xs → All (λ q. up_to p.list p.from q ≡ false) ys
@@ -87,8 +87,8 @@ pub put_between : (p : Piece) (xs ys : List Piece) → All (λ q. up_to p.list p
 put_between p xs ys front back id =
     let more = filter-append (λ (q : Piece). eqb q.list id) xs (p ∷ ys) in
     let less = filter-append (λ (q : Piece). eqb q.list id) xs ys in
-    let low = low-whole p.list p.from xs ys front back in
-    let high = high-whole p.list p.from xs ys front back in
+    let low = low_whole p.list p.from xs ys front back in
+    let high = high_whole p.list p.from xs ys front back in
     grind (arith, nat_tests)
 
 -- another free place of a list's last fragment
@@ -96,9 +96,9 @@ module _ (free : ℕ) (xs ys : List Piece) (p : Piece) where
   moved : Piece
   moved = record { list = p.list; number = p.number; from = p.from; fragment = p.fragment; free = free }
 
-  freed-same : of_list p.list (xs ++ (p ∷ ys)) ≡ of_list p.list xs ++ (p ∷ []) → of_list p.list (xs ++ (moved ∷ ys)) ≡ freed free (of_list p.list (xs ++ (p ∷ ys)))
+  freed_same : of_list p.list (xs ++ (p ∷ ys)) ≡ of_list p.list xs ++ (p ∷ []) → of_list p.list (xs ++ (moved ∷ ys)) ≡ freed free (of_list p.list (xs ++ (p ∷ ys)))
   unfolding moved
-  freed-same whole =
+  freed_same whole =
       let t : eqb p.list p.list ≡ true = grind (arith, nat_tests) in
       let was : of_list p.list (xs ++ (p ∷ ys)) ≡ of_list p.list xs ++ (p ∷ of_list p.list ys) = filter-append (λ (q : Piece). eqb q.list p.list) xs (p ∷ ys) ∙ rw t refl in
       let is : of_list p.list (xs ++ (moved ∷ ys)) ≡ of_list p.list xs ++ (moved ∷ of_list p.list ys) = filter-append (λ (q : Piece). eqb q.list p.list) xs (moved ∷ ys) ∙ rw t refl in
@@ -106,21 +106,21 @@ module _ (free : ℕ) (xs ys : List Piece) (p : Piece) where
       let none : of_list p.list ys ≡ [] = cc in
       is ∙ rw none refl ∙ sym (freed_push free (of_list p.list xs) p) ∙ ap (freed free) (sym whole)
 
-  freed-other : (id : ℕ) → eqb p.list id ≡ false → of_list id (xs ++ (moved ∷ ys)) ≡ of_list id (xs ++ (p ∷ ys))
+  freed_other : (id : ℕ) → eqb p.list id ≡ false → of_list id (xs ++ (moved ∷ ys)) ≡ of_list id (xs ++ (p ∷ ys))
   unfolding moved
-  freed-other id e =
+  freed_other id e =
       let is : of_list id (xs ++ (moved ∷ ys)) ≡ of_list id xs ++ of_list id ys = filter-append (λ (q : Piece). eqb q.list id) xs (moved ∷ ys) ∙ rw e refl in
       let was : of_list id (xs ++ (p ∷ ys)) ≡ of_list id xs ++ of_list id ys = filter-append (λ (q : Piece). eqb q.list id) xs (p ∷ ys) ∙ rw e refl in
       is ∙ sym was
 
-  pub freed-between : of_list p.list (xs ++ (p ∷ ys)) ≡ of_list p.list xs ++ (p ∷ [])
+  pub freed_between : of_list p.list (xs ++ (p ∷ ys)) ≡ of_list p.list xs ++ (p ∷ [])
       → (id : ℕ) → of_list id (xs ++ (record { list = p.list; number = p.number; from = p.from; fragment = p.fragment; free = free } ∷ ys))
       ≡ cond (eqb p.list id) (freed free (of_list id (xs ++ (p ∷ ys)))) (of_list id (xs ++ (p ∷ ys)))
   unfolding moved
-  freed-between whole id = elim (cases_Bool (eqb p.list id)) [
+  freed_between whole id = elim (cases_Bool (eqb p.list id)) [
     | inl e ↦
-        let s = freed-same whole in
+        let s = freed_same whole in
         let q : p.list ≡ id = grind (arith, nat_tests) in
         rw (e, ← q) s
-    | inr e ↦ rw e (freed-other id e)
+    | inr e ↦ rw e (freed_other id e)
   ]

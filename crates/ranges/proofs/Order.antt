@@ -48,8 +48,8 @@ module _ (ss : List Span) (n : ℕ)
     | inr b ↦ let e : i ≡ j = omega arith in rw e (omega arith)
   ]
 
-  rises-ends : (i j : ℕ) → i ≤ j → j < n → end_at ss i ≤ end_at ss j
-  rises-ends i j h l = elim (cases_lt i j) [
+  rises_ends : (i j : ℕ) → i ≤ j → j < n → end_at ss i ≤ end_at ss j
+  rises_ends i j h l = elim (cases_lt i j) [
     | inl b ↦ omega (arith, some j l, ordered i j (b, l))
     | inr b ↦ let e : i ≡ j = omega arith in rw e (omega arith)
   ]
@@ -64,15 +64,15 @@ module _ (ss : List Span) (n : ℕ)
       (below : (k : ℕ) → k < i → start_at ss k < s.start)
       (above : (k : ℕ) → i ≤ k → k < n → s.start ≤ start_at ss k) where
     -- the neighbours, each alone
-    before-meets : reaches s.start ss i ≡ true → meets s ss ≡ true
-    before-meets e =
+    before_meets : reaches s.start ss i ≡ true → meets s ss ≡ true
+    before_meets e =
         let p : 0 < i = grind (arith, nat_tests) in
         let q : s.start < end_at ss (i - 1) = grind (arith, nat_tests) in
         let b = below (i - 1) (omega arith) in
         meets_at s ss (i - 1) (omega arith) (grind (arith, nat_tests))
 
-    behind-meets : begins_within s ss n i ≡ true → meets s ss ≡ true
-    behind-meets e =
+    behind_meets : begins_within s ss n i ≡ true → meets s ss ≡ true
+    behind_meets e =
         let p : i < n = grind (arith, nat_tests) in
         let q : start_at ss i < end_of s = grind (arith, nat_tests) in
         let a = above i (omega arith) p in
@@ -84,7 +84,7 @@ module _ (ss : List Span) (n : ℕ)
     apart e f k l = elim (cases_lt k i) [
       | inl b ↦
           let p : end_at ss (i - 1) ≤ s.start = grind (arith, nat_tests) in
-          let q = rises-ends k (i - 1) (omega arith) (omega arith) in
+          let q = rises_ends k (i - 1) (omega arith) (omega arith) in
           grind (arith, nat_tests)
       | inr b ↦
           let p : end_of s ≤ start_at ss i = grind (arith, nat_tests) in
@@ -93,11 +93,11 @@ module _ (ss : List Span) (n : ℕ)
     ]
 
     -- so only the neighbours count
-    some-meets : (reaches s.start ss i || begins_within s ss n i) ≡ meets s ss
-    some-meets = elim (cases_Bool (reaches s.start ss i)) [
-      | inl e ↦ let m = before-meets e in grind (arith, nat_tests)
+    some_meets : (reaches s.start ss i || begins_within s ss n i) ≡ meets s ss
+    some_meets = elim (cases_Bool (reaches s.start ss i)) [
+      | inl e ↦ let m = before_meets e in grind (arith, nat_tests)
       | inr e ↦ elim (cases_Bool (begins_within s ss n i)) [
-        | inl f ↦ let m = behind-meets f in grind (arith, nat_tests)
+        | inl f ↦ let m = behind_meets f in grind (arith, nat_tests)
         | inr f ↦ let m = meets_none s ss (λ k h. apart e f k (omega arith)) in grind (arith, nat_tests)
       ]
     ]
@@ -112,11 +112,11 @@ module _ (ss : List Span) (n : ℕ)
         | inr e ↦ e
       ]
 
-      ends-before : (k : ℕ) → k < i → end_at ss k ≤ s.start
-      ends-before k l = let u = unmet k (omega arith) in let z = some k (omega arith) in let b = below k l in grind (arith, nat_tests)
+      ends_before : (k : ℕ) → k < i → end_at ss k ≤ s.start
+      ends_before k l = let u = unmet k (omega arith) in let z = some k (omega arith) in let b = below k l in grind (arith, nat_tests)
 
-      starts-behind : (k : ℕ) → i ≤ k → k < n → end_of s ≤ start_at ss k
-      starts-behind k h l = let u = unmet k l in let z = some k l in let a = above k h l in grind (arith, nat_tests)
+      starts_behind : (k : ℕ) → i ≤ k → k < n → end_of s ≤ start_at ss k
+      starts_behind k h l = let u = unmet k l in let z = some k l in let a = above k h l in grind (arith, nat_tests)
 
       -- with one more none is empty
       pub some_more : (k : ℕ) → k < n + 1 → start_at ts k < end_at ts k
@@ -127,11 +127,11 @@ module _ (ss : List Span) (n : ℕ)
       ]
 
       -- and they stand in order
-      pub ordered-more : (j k : ℕ) → (j < k) × (k < n + 1) → end_at ts j ≤ start_at ts k
-      ordered-more j k (h, l) = elim (cases_order j i) [
-        | inl e ↦ let q = high k (omega arith) in let z = starts-behind (k - 1) (omega arith) (omega arith) in grind arith
+      pub ordered_more : (j k : ℕ) → (j < k) × (k < n + 1) → end_at ts j ≤ start_at ts k
+      ordered_more j k (h, l) = elim (cases_order j i) [
+        | inl e ↦ let q = high k (omega arith) in let z = starts_behind (k - 1) (omega arith) (omega arith) in grind arith
         | inr (inl b) ↦ elim (cases_order k i) [
-          | inl e ↦ let p = low j b in let z = ends-before j b in grind arith
+          | inl e ↦ let p = low j b in let z = ends_before j b in grind arith
           | inr (inl d) ↦ let p = low j b in let q = low k d in let z = ordered j k (h, omega arith) in grind arith
           | inr (inr d) ↦ let p = low j b in let q = high k d in let z = ordered j (k - 1) (omega arith, omega arith) in grind arith
         ]
@@ -139,9 +139,9 @@ module _ (ss : List Span) (n : ℕ)
       ]
 
   -- a range meets the others where it meets the one before its place or the one at it
-  pub near-meets : n ≡ length ss → (s : Span) (i : ℕ) → i ≤ n → ((k : ℕ) → k < i → start_at ss k < s.start) → ((k : ℕ) → i ≤ k → k < n → s.start ≤ start_at ss k)
+  pub near_meets : n ≡ length ss → (s : Span) (i : ℕ) → i ≤ n → ((k : ℕ) → k < i → start_at ss k < s.start) → ((k : ℕ) → i ≤ k → k < n → s.start ≤ start_at ss k)
       → near s ss n i ≡ meets s ss
-  near-meets long s i in' below above = elim (cases_lt 0 s.size) [
-    | inl p ↦ let m = some-meets long s p i in' below above in grind (arith, nat_tests)
+  near_meets long s i in' below above = elim (cases_lt 0 s.size) [
+    | inl p ↦ let m = some_meets long s p i in' below above in grind (arith, nat_tests)
     | inr p ↦ let m = meets_empty s ss (omega arith) in grind (arith, nat_tests)
   ]

@@ -31,8 +31,8 @@ abbrev pub log_of : List Span → List (List Entry) → ℕ → Log
 log_of fs ts used = record { fragments = fs; transactions = ts; used = used }
 
 module _ (b : List ℕ) (h : Header) (capacity : ℕ) (fs : List Span) (cs : List Change) (n used : ℕ) (r : LogRead b h capacity fs cs n (Ok used)) where
-  pub logged-of : Right b h capacity → Logged b h capacity (log_of fs r.0 used)
-  logged-of right = record { right = right; gives = r.1; room = r.4 }
+  pub logged_of : Right b h capacity → Logged b h capacity (log_of fs r.0 used)
+  logged_of right = record { right = right; gives = r.1; room = r.4 }
 
 pub filed_of : (b : List ℕ) (h : Header) (log : Log) (rows rows' : List Row) (all all' : List Span) (a : AllRead b h log rows all) → rows' ≡ rows → all' ≡ all → Filed log a.lists rows' all'
 filed_of b h log rows rows' all all' a x y = record { rows_are = x ∙ a.row; fragments_are = y ∙ a.fragments }

@@ -19,8 +19,8 @@ use Rattle.counts.specs.Noted.{noted, numbered}
 use Rattle.counts.proofs.Numbered.{entries_numbered}
 use Rattle.meaning.proofs.Base.{Clean}
 use Rattle.meaning.proofs.OpensMeans.{passes_headed}
-use Rattle.meaning.proofs.TellLog.{Log-tells, log_told as log-tells}
-use Rattle.meaning.proofs.TellQueue.{Lists-tell, lists-told}
+use Rattle.meaning.proofs.TellLog.{LogTells, log_told as log_tells}
+use Rattle.meaning.proofs.TellQueue.{ListsTell, lists_told}
 use Rattle.refusals.specs.declared.faults.LogFault.{LogFault}
 use Rattle.refusals.specs.declared.faults.LogFault.TheVariants as log
 use Rattle.refusals.specs.Refusals.{log_told}
@@ -53,9 +53,9 @@ module _ (b : List ℕ) (h : Header) (capacity : ℕ) where
   headed : Right → Headed b h
   headed r = subst (λ (x : Header). Headed b x) (sym r.is) (passes_headed b (clean_none (header_checks b) r.passes))
 
-  opened-on : Right → opened_in capacity b ≡ within_room capacity (all_counts b h) (part_log b h)
+  opened_on : Right → opened_in capacity b ≡ within_room capacity (all_counts b h) (part_log b h)
   unfolding opened_in
-  opened-on r = unless_none (header_checks b) _ r.passes ∙ ap (λ (x : Header). within_room capacity (all_counts b x) (part_log b x)) (sym r.is)
+  opened_on r = unless_none (header_checks b) _ r.passes ∙ ap (λ (x : Header). within_room capacity (all_counts b x) (part_log b x)) (sym r.is)
 
   roomy : {A : Type 0} (ps : List ℕ) (x : Outcome A) → length ps ≤ capacity → within_room capacity ps x ≡ x
   roomy ps x l = let e : ltb capacity (length ps) ≡ false = grind (arith, nat_tests) in rw e
@@ -64,16 +64,16 @@ module _ (b : List ℕ) (h : Header) (capacity : ℕ) where
   crowded ps p x l q = let e : ltb capacity (length ps) ≡ true = grind (arith, nat_tests) in rw (e, q)
 
   -- the log breaks a rule, or has more counts than there is room for
-  log-breaks : Right → (f : Fault) → (whole_log b h ≡ refused f) × (length (all_counts b h) ≤ capacity) → opened_in capacity b ≡ refused f
-  log-breaks r f (e, l) = opened-on r ∙ roomy (all_counts b h) (part_log b h) l ∙ ap (λ x. then x (part_lists b h)) e
+  log_breaks : Right → (f : Fault) → (whole_log b h ≡ refused f) × (length (all_counts b h) ≤ capacity) → opened_in capacity b ≡ refused f
+  log_breaks r f (e, l) = opened_on r ∙ roomy (all_counts b h) (part_log b h) l ∙ ap (λ x. then x (part_lists b h)) e
 
-  pub log-refused : Right → (x : LogFault) → Refuses (whole_log b h) (all_counts b h) capacity x → opened_in capacity b ≡ refused (log_told x)
-  log-refused r (log.Outside p) t = log-breaks r (log_told (log.Outside p)) t
-  log-refused r (log.Sum p) t = log-breaks r (log_told (log.Sum p)) t
-  log-refused r (log.Backward p) t = log-breaks r (log_told (log.Backward p)) t
-  log-refused r (log.Overlap p) t = log-breaks r (log_told (log.Overlap p)) t
-  log-refused r (log.Full p) t = log-breaks r (log_told (log.Full p)) t
-  log-refused r (log.Room p) (l, q) = opened-on r ∙ crowded (all_counts b h) p (part_log b h) l q
+  pub log_refused : Right → (x : LogFault) → Refuses (whole_log b h) (all_counts b h) capacity x → opened_in capacity b ≡ refused (log_told x)
+  log_refused r (log.Outside p) t = log_breaks r (log_told (log.Outside p)) t
+  log_refused r (log.Sum p) t = log_breaks r (log_told (log.Sum p)) t
+  log_refused r (log.Backward p) t = log_breaks r (log_told (log.Backward p)) t
+  log_refused r (log.Overlap p) t = log_breaks r (log_told (log.Overlap p)) t
+  log_refused r (log.Full p) t = log_breaks r (log_told (log.Full p)) t
+  log_refused r (log.Room p) (l, q) = opened_on r ∙ crowded (all_counts b h) p (part_log b h) l q
 
   -- the log was read
   pub record Logged (l : Log) : Type 0 where
@@ -81,42 +81,42 @@ module _ (b : List ℕ) (h : Header) (capacity : ℕ) where
     pub gives : whole_log b h ≡ done l
     pub room : length (all_counts b h) ≤ capacity
 
-  pub logs-of : (l : Log) → Logged l → Logs b h l
-  logs-of l d =
+  pub logs_of : (l : Log) → Logged l → Logs b h l
+  logs_of l d =
       let o = headed d.right in
-      subst (Log-tells b h) d.gives (log-tells b h (sym (ap (λ (x : Header). x.log) o.fields)) o.counts)
+      subst (LogTells b h) d.gives (log_tells b h (sym (ap (λ (x : Header). x.log) o.fields)) o.counts)
 
-  pub holds-log : (fs : List Span) (ts : List (List Entry)) (used : ℕ) (cs : List Change) (rows : List Row) → cs ≡ numbered 1 ts → rows ≡ []
+  pub holds_log : (fs : List Span) (ts : List (List Entry)) (used : ℕ) (cs : List Change) (rows : List Row) → cs ≡ numbered 1 ts → rows ≡ []
       → Holds (record { fragments = fs; transactions = ts; used = used }) cs fs rows
-  holds-log fs ts used cs rows e n = record {
+  holds_log fs ts used cs rows e n = record {
     counts = λ id. ap (λ xs. noted xs id) e ∙ ap (latest id 0) (entries_numbered ts 1);
     fragments = refl;
     none = n;
   }
 
-  log-on : (l : Log) → Logged l → opened_in capacity b ≡ part_lists b h l
-  log-on l d = opened-on d.right ∙ roomy (all_counts b h) (part_log b h) d.room ∙ ap (λ x. then x (part_lists b h)) d.gives
+  log_on : (l : Log) → Logged l → opened_in capacity b ≡ part_lists b h l
+  log_on l d = opened_on d.right ∙ roomy (all_counts b h) (part_log b h) d.room ∙ ap (λ x. then x (part_lists b h)) d.gives
 
   pub lists_refused : (l : Log) (f : Fault) → Logged l → lists_from 1024 b h l (named_first h) [] ≡ refused f → opened_in capacity b ≡ refused f
-  lists_refused l f d e = log-on l d ∙ ap (λ x. then x (last_part h l)) e
+  lists_refused l f d e = log_on l d ∙ ap (λ x. then x (last_part h l)) e
 
   -- the lists were read
-  pub walked-of : (l : Log) (ls : List NodeList) → Logged l → lists_from 1024 b h l (named_first h) [] ≡ done ls → Walked b h l ls []
-  walked-of l ls d e = subst (Lists-tell b h l) e (lists-told b h l (logs-of l d))
+  pub walked_of : (l : Log) (ls : List NodeList) → Logged l → lists_from 1024 b h l (named_first h) [] ≡ done ls → Walked b h l ls []
+  walked_of l ls d e = subst (ListsTell b h l) e (lists_told b h l (logs_of l d))
 
-  lists-on : (l : Log) (ls : List NodeList) → Logged l → lists_from 1024 b h l (named_first h) [] ≡ done ls → opened_in capacity b ≡ last_part h l ls
-  lists-on l ls d e = log-on l d ∙ ap (λ x. then x (last_part h l)) e
+  lists_on : (l : Log) (ls : List NodeList) → Logged l → lists_from 1024 b h l (named_first h) [] ≡ done ls → opened_in capacity b ≡ last_part h l ls
+  lists_on l ls d e = log_on l d ∙ ap (λ x. then x (last_part h l)) e
 
   pub data_refused : (l : Log) (ls : List NodeList) (f : Fault) → Logged l → lists_from 1024 b h l (named_first h) [] ≡ done ls → told_by (all_data h l ls) ≡ Some f
       → opened_in capacity b ≡ refused f
-  data_refused l ls f d e t = lists-on l ls d e ∙ unless_told (all_data h l ls) _ f t
+  data_refused l ls f d e t = lists_on l ls d e ∙ unless_told (all_data h l ls) _ f t
 
   pub all_read : (l : Log) (ls : List NodeList) → Logged l → lists_from 1024 b h l (named_first h) [] ≡ done ls → told_by (all_data h l ls) ≡ None
       → opened_in capacity b ≡ done (record { header = h; log = l; lists = ls })
-  all_read l ls d e t = lists-on l ls d e ∙ unless_none (all_data h l ls) _ t
+  all_read l ls d e t = lists_on l ls d e ∙ unless_none (all_data h l ls) _ t
 
   -- with enough room, that is what is opened
-  pub in-room : (l : Log) → Logged l → opened b ≡ opened_in capacity b
+  pub in_room : (l : Log) → Logged l → opened b ≡ opened_in capacity b
   unfolding opened opened_in
-  in-room l d =
-      unless_none (header_checks b) _ d.right.passes ∙ ap (part_log b) (sym d.right.is) ∙ sym (opened-on d.right ∙ roomy (all_counts b h) (part_log b h) d.room)
+  in_room l d =
+      unless_none (header_checks b) _ d.right.passes ∙ ap (part_log b) (sym d.right.is) ∙ sym (opened_on d.right ∙ roomy (all_counts b h) (part_log b h) d.room)

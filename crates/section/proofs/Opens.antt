@@ -57,22 +57,22 @@ module _ (mark : ℕ) (b : List ℕ) (capacity : ℕ) (room : Room) (a : Access)
   abbrev fs : List Span
   fs = vec_items room.fragments
 
-  fragments-same : fs ≡ fragments_of r.section
-  fragments-same = r.filed.fragments_are
+  fragments_same : fs ≡ fragments_of r.section
+  fragments_same = r.filed.fragments_are
 
-  pub figures-read : (n m p : ℕ) → n ≡ length (vec_items room.lists) → m ≡ length fs → (1 ≤ a.header.end → sizes fs < 2 ^ 56 → p ≡ percent_of fs a.header.end)
+  pub figures_read : (n m p : ℕ) → n ≡ length (vec_items room.lists) → m ≡ length fs → (1 ≤ a.header.end → sizes fs < 2 ^ 56 → p ≡ percent_of fs a.header.end)
       → record { count = a.header.count; end = a.header.end; lists = n; fragments = m; percent = p } ≡ figures_of r.section
-  figures-read n m p x y z =
+  figures_read n m p x y z =
       let mean = (opens_means b r.section r.fits).0 in
       let least = mean.header.least in
       let h = r.keeps.header in
       let e : a.header.end ≡ r.section.header.end = ap (λ (k : Header). k.end) h in
       let c : a.header.count ≡ r.section.header.count = ap (λ (k : Header). k.count) h in
-      let q : p ≡ percent_of fs a.header.end = z (omega arith) (subst (λ w. sizes w < 2 ^ 56) (sym fragments-same) (sizes_of b r.section mean)) in
+      let q : p ≡ percent_of fs a.header.end = z (omega arith) (subst (λ w. sizes w < 2 ^ 56) (sym fragments_same) (sizes_of b r.section mean)) in
       let k : n ≡ length r.section.lists = x ∙ ap length r.filed.rows_are ∙ rows_number (length r.section.log.fragments) r.section.lists in
-      let j : m ≡ length (fragments_of r.section) = y ∙ ap length fragments-same in
+      let j : m ≡ length (fragments_of r.section) = y ∙ ap length fragments_same in
       let t : percent_of fs a.header.end ≡ percent_of (fragments_of r.section) r.section.header.end
-      = ap (λ w. percent_of w a.header.end) fragments-same ∙ ap (percent_of (fragments_of r.section)) e in
+      = ap (λ w. percent_of w a.header.end) fragments_same ∙ ap (percent_of (fragments_of r.section)) e in
       same a.header.count r.section.header.count a.header.end r.section.header.end n (length r.section.lists) m (length (fragments_of r.section)) p
       (percent_of (fragments_of r.section) r.section.header.end) c e k j (q ∙ t)
     where
@@ -80,11 +80,11 @@ module _ (mark : ℕ) (b : List ℕ) (capacity : ℕ) (room : Room) (a : Access)
           → ◌≡◌ {A = Figures} (record { count = a; end = b; lists = c; fragments = d; percent = e }) (record { count = a'; end = b'; lists = c'; fragments = d'; percent = e' })
       same a a' b b' c c' d d' e e' p q r s t = cc
 
-  pub answer-read : (o : Option Access) (f : Figures) → o ≡ None → f ≡ figures_of r.section → done f ≡ open_answer o capacity b
-  answer-read o f n e = ap done e ∙ sym (ap (λ x. then x (λ s. done (figures_of s))) r.opens) ∙ ap (λ o. open_answer o capacity b) (sym n)
+  pub answer_read : (o : Option Access) (f : Figures) → o ≡ None → f ≡ figures_of r.section → done f ≡ open_answer o capacity b
+  answer_read o f n e = ap done e ∙ sym (ap (λ x. then x (λ s. done (figures_of s))) r.opens) ∙ ap (λ o. open_answer o capacity b) (sym n)
 
-  pub marks-read : (o : Option Access) (f : Figures) → o ≡ None → Marks o mark (done f) (Some a)
-  marks-read o f n = subst (λ o. Marks o mark (done f) (Some a)) (sym n) r.marked
+  pub marks_read : (o : Option Access) (f : Figures) → o ≡ None → Marks o mark (done f) (Some a)
+  marks_read o f n = subst (λ o. Marks o mark (done f) (Some a)) (sym n) r.marked
 
-  pub rows-read : ListsRows (opened_in capacity b) (vec_items room.lists)
-  rows-read = subst (λ x. ListsRows x (vec_items room.lists)) (sym r.opens) r.filed.rows_are
+  pub rows_read : ListsRows (opened_in capacity b) (vec_items room.lists)
+  rows_read = subst (λ x. ListsRows x (vec_items room.lists)) (sym r.opens) r.filed.rows_are

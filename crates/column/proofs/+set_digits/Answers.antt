@@ -1,6 +1,6 @@
 -- One digit alone, or one digit behind those of n / 10.
 use Rattle.std.proofs.Common.{arith}
-use Rattle.column.proofs.Steps.{down, alone, alone_size, behind, behind-size}
+use Rattle.column.proofs.Steps.{down, alone, alone_size, behind, behind_size}
 use Rattle.column.proofs.+set_digits.Goals as goal
 
 pub returns-then-n-lt10 : goal.returns-then-n-lt10
@@ -16,6 +16,6 @@ set-digits-start-requires t c =
 
 pub returns : goal.returns
 returns t c = record {
-  start = behind-size c.args.column.now _ _ _ c.if-n-lt10.false c.requires.some c.requires.within c.set-digits-start.ensures.start;
+  start = behind_size c.args.column.now _ _ _ c.if-n-lt10.false c.requires.some c.requires.within c.set-digits-start.ensures.start;
   set = behind _ _ _ _ c.if-n-lt10.false c.requires.some c.requires.within c.set-digits-start.ensures.start _ c.set-digits-start.ensures.set;
 }

@@ -1,7 +1,7 @@
 use Rattle.commits.proofs.CommitReads.{commit_reads}
 use Rattle.commits.proofs.LooksGrow.{looks_grow}
-use Rattle.lasting.proofs.Lasting.{finished-states-last}
+use Rattle.lasting.proofs.Lasting.{finished_states_last}
 use Rattle.lasting.proofs.finished_states_last.Goals as goal
 
 pub returns : goal.returns
-returns c = finished-states-last commit_reads looks_grow
+returns c = finished_states_last commit_reads looks_grow

@@ -1,7 +1,7 @@
 -- The eight bytes are a window into the store, and each is a byte.
 use Rattle.std.proofs.Common.{◌≡◌, length, arith}
 use Rattle.model.specs.Bytes.{le}
-use Rattle.log_pass.proofs.OneEntry.{entry-window, bytes-window}
+use Rattle.log_pass.proofs.OneEntry.{entry_window, bytes_window}
 use Rattle.log_pass.proofs.entry_at.Goals as goal
 
 pub returns : goal.returns
@@ -13,6 +13,6 @@ returns g c =
     let s : c.from-le-bytes-source.result ≡ le 4 c.fetch.new.buffer 0 = omega (arith, c.from-le-bytes-source.ensures) in
     let n : c.from-le-bytes-number.result ≡ le 4 c.fetch.new.buffer 4 = omega (arith, c.from-le-bytes-number.ensures) in
     record {
-      entry = entry-window row buffer c.args.place c.fetch.ensures l _ _ s n;
-      bytes = bytes-window row buffer c.args.place c.fetch.ensures l _ _ s n (λ i. g.met.S.Store.byte c.args.store.now i);
+      entry = entry_window row buffer c.args.place c.fetch.ensures l _ _ s n;
+      bytes = bytes_window row buffer c.args.place c.fetch.ensures l _ _ s n (λ i. g.met.S.Store.byte c.args.store.now i);
     }

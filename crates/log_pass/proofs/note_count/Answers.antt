@@ -2,12 +2,12 @@
 use Rattle.std.proofs.Common.{[], ◌∷◌, ◌++◌, sym, refl, ◌∙◌, arith}
 use Rattle.std.proofs.lemmas.Bool.{ltb-false, cond-true}
 use Rattle.model.specs.OpenedLog.{reading}
-use Rattle.log_pass.proofs.OneEntry.{met-backward, met-count, holds-count}
+use Rattle.log_pass.proofs.OneEntry.{met_backward, met_count, holds_count}
 use Rattle.log_pass.proofs.note_count.Goals as goal
 
 pub returns-then-entry-latest : goal.returns-then-entry-latest
 returns-then-entry-latest c = record {
-  takes = λ k h. met-backward _ c.args.place _ _ _ k h c.args.entry c.requires.source (omega arith);
+  takes = λ k h. met_backward _ c.args.place _ _ _ k h c.args.entry c.requires.source (omega arith);
   room = refl;
 }
 
@@ -15,7 +15,7 @@ pub returns-then-not-note : goal.returns-then-not-note
 returns-then-not-note c = record {
   takes = λ k h. (
     reading k.transactions (k.pending ++ (c.args.entry ∷ [])),
-    met-count _ c.args.place _ _ _ k h c.args.entry c.requires.source (omega arith),
+    met_count _ c.args.place _ _ _ k h c.args.entry c.requires.source (omega arith),
     ltb-false _ _ (sym c.note.ensures.test ∙ c.if-not-note.true),
     refl,
   );
@@ -30,8 +30,8 @@ returns c =
       takes = λ k h. (
         reading k.transactions (k.pending ++ (c.args.entry ∷ [])),
         c.args.place ∷ [],
-        met-count _ c.args.place _ _ _ k h c.args.entry c.requires.source (omega arith),
-        holds-count _ c.args.place _ _ _ k h c.args.entry c.args.bytes.now c.requires.bytes _ _ _ (s.changes ∙ cond-true _ _ _ t) s.finished c.update-slice.ensures,
+        met_count _ c.args.place _ _ _ k h c.args.entry c.requires.source (omega arith),
+        holds_count _ c.args.place _ _ _ k h c.args.entry c.args.bytes.now c.requires.bytes _ _ _ (s.changes ∙ cond-true _ _ _ t) s.finished c.update-slice.ensures,
         s.len ∙ cond-true _ _ _ t,
       );
       room = s.room;

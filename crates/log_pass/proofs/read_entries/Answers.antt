@@ -2,7 +2,7 @@
 use Rattle.std.proofs.Common.{◌<◌, ◌≤◌, Err, vec_items, vec_len, ap, ◌∙◌, arith}
 use Rattle.std.proofs.lemmas.Result.{err_from_is_err_and}
 use Rattle.model.specs.LogFragments.{entries_in}
-use Rattle.log_pass.proofs.Entries.{more-at, ends_at, wrong-at, going-all}
+use Rattle.log_pass.proofs.Entries.{more_at, ends_at, wrong_at, going_all}
 use Rattle.log_pass.proofs.read_entries.Goals as goal
 
 pub returns-in-err-take-entry : goal.returns-in-err-take-entry
@@ -17,7 +17,7 @@ returns-in-err-take-entry g c =
     record {
       read = λ k h.
           let w = c.loop-i.invariant.1 k h in
-          wrong-at b c.args.count f k (vec_len c.args.counts.now.changes) c.loop-i.i (vec_items at'.changes) at'.finished c.loop-i.crc.register (vec_len at'.changes) w
+          wrong_at b c.args.count f k (vec_len c.args.counts.now.changes) c.loop-i.i (vec_items at'.changes) at'.finished c.loop-i.crc.register (vec_len at'.changes) w
           c.entry-at.result.0 c.entry-at.ensures.entry l at'.room c.args.counts.now.room c.loop-i.invariant.0 r c.in-err-take-entry.field-0.0 c.from-residual.result (e.1 ∙ ap Err e.2)
           (vec_items new.changes) new.finished c.take-entry.new.crc.register (vec_len new.changes) (c.in-err-take-entry.ensures.takes w.to w.holds);
       room = c.take-entry.ensures.room ∙ c.loop-i.invariant.0;
@@ -49,7 +49,7 @@ loop-i-preserved g c =
       c.take-entry.ensures.room ∙ c.loop-i.invariant.0,
       λ k h.
           let w = c.loop-i.invariant.1 k h in
-          more-at b c.args.count f k (vec_len c.args.counts.now.changes) c.loop-i.i (vec_items at'.changes) at'.finished c.loop-i.crc.register (vec_len at'.changes) w
+          more_at b c.args.count f k (vec_len c.args.counts.now.changes) c.loop-i.i (vec_items at'.changes) at'.finished c.loop-i.crc.register (vec_len at'.changes) w
           c.entry-at.result.0 c.entry-at.ensures.entry l c.in-ok-take-entry.field-0 c.if-branch.false
           (vec_items new.changes) new.finished c.take-entry.new.crc.register at'.room (vec_len new.changes) (c.in-ok-take-entry.ensures.takes w.to w.holds),
     )
@@ -61,7 +61,7 @@ returns g c =
     let l : entries_in c.args.fragment.size ≤ c.loop-i.i = omega (arith, c.entries-in-n.ensures) in
     record {
       read = λ k h.
-          going-all b c.args.count c.args.fragment k (vec_len c.args.counts.now.changes) c.loop-i.i (vec_items at'.changes) at'.finished c.loop-i.crc.register
+          going_all b c.args.count c.args.fragment k (vec_len c.args.counts.now.changes) c.loop-i.i (vec_items at'.changes) at'.finished c.loop-i.crc.register
           (vec_len at'.changes) (c.loop-i.invariant.1 k h) l at'.room;
       room = c.loop-i.invariant.0;
     }

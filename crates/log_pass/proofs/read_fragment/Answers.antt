@@ -1,6 +1,6 @@
 -- A fragment is a step of the log's definition: its place, then its entries.
 use Rattle.std.proofs.Common.{◌-◌, ◌<◌, length, vec_items, vec_len, ap, ◌∙◌, arith}
-use Rattle.log_pass.proofs.Fragments.{misplaced-at, read_at, inside_of, cases_done}
+use Rattle.log_pass.proofs.Fragments.{misplaced_at, read_at, inside_of, cases_done}
 use Rattle.log_pass.proofs.read_fragment.Goals as goal
 
 pub returns-in-Err : goal.returns-in-Err
@@ -11,7 +11,7 @@ returns-in-Err g c =
     record {
       place = tt;
       read = λ m k h.
-          misplaced-at m (g.S.Store.bytes c.args.store.now) c.args.header.now (vec_items d.fragments) c.args.field c.args.fragment k
+          misplaced_at m (g.S.Store.bytes c.args.store.now) c.args.header.now (vec_items d.fragments) c.args.field c.args.fragment k
           (vec_items c.admit.new.self.fragments) c.in-Err.misplaced (d.counts.room - vec_len d.counts.changes) l s.answer c.log-fault.result c.log-fault.ensures;
       room = ap (λ x. x.room) s.counts;
       lists = s.lists;

@@ -1,7 +1,7 @@
 -- The walk over the fragments.
 use Rattle.std.proofs.Common.{◌-◌, ◌<◌, ◌≤◌, Err, vec_items, vec_len, refl, ap, ◌∙◌, arith}
 use Rattle.std.proofs.lemmas.Result.{err_from_is_err_and}
-use Rattle.log_pass.proofs.Fragments.{walking_none, more-at, ends_at, wrong-at, walking-all}
+use Rattle.log_pass.proofs.Fragments.{walking_none, more_at, ends_at, wrong_at, walking_all}
 use Rattle.log_pass.proofs.read_fragments.Goals as goal
 
 pub loop-read-init : goal.loop-read-init
@@ -25,7 +25,7 @@ returns-in-err-used g c =
     let e = err_from_is_err_and c.from-residual.result c.from-residual.ensures.1 in
     record {
       log =
-          wrong-at b c.args.header.now c.loop-read.-read (vec_items d.fragments) c.loop-read.field c.loop-read.fragment (vec_items d.counts.changes) d.counts.finished
+          wrong_at b c.args.header.now c.loop-read.-read (vec_items d.fragments) c.loop-read.field c.loop-read.fragment (vec_items d.counts.changes) d.counts.finished
           c.loop-read.crc.register (vec_len d.counts.changes) w l d.counts.room c.args.room.now.counts.room c.loop-read.invariant.1 d.counts.held.0
           c.in-err-used.field-0.0 c.from-residual.result (e.1 ∙ ap Err e.2) (vec_items new.fragments) (vec_items new.counts.changes) new.counts.finished
           (c.in-err-used.ensures.read (2047 - c.loop-read.-read) w.to w.holds);
@@ -63,7 +63,7 @@ loop-read-preserved g c =
     let w = c.loop-read.invariant.0 in
     let s = c.read-fragment.ensures in
     let l : c.loop-read.-read < 2048 = omega arith in (
-      more-at b c.args.header.now c.loop-read.-read (vec_items d.fragments) c.loop-read.field c.loop-read.fragment (vec_items d.counts.changes) d.counts.finished
+      more_at b c.args.header.now c.loop-read.-read (vec_items d.fragments) c.loop-read.field c.loop-read.fragment (vec_items d.counts.changes) d.counts.finished
           c.loop-read.crc.register (vec_len d.counts.changes) w l d.counts.room
           (vec_items new.fragments) (vec_items new.counts.changes) new.counts.finished c.read-fragment.new.crc.register (vec_len new.counts.changes)
           c.in-ok-used.field-0 c.in-default.is (c.in-ok-used.ensures.read (2047 - c.loop-read.-read) w.to w.holds)
@@ -81,7 +81,7 @@ returns g c =
     let r : vec_len c.loop-read.room.counts.changes ≤ c.args.room.now.counts.room = omega (arith, c.loop-read.room.counts.held.0, c.loop-read.invariant.1) in
     record {
       log =
-          walking-all b c.args.header.now c.loop-read.-read (vec_items d.fragments) c.loop-read.field c.loop-read.fragment (vec_items d.counts.changes) d.counts.finished
+          walking_all b c.args.header.now c.loop-read.-read (vec_items d.fragments) c.loop-read.field c.loop-read.fragment (vec_items d.counts.changes) d.counts.finished
           c.loop-read.crc.register (vec_len d.counts.changes) c.loop-read.invariant.0 l c.args.room.now.counts.room r c.past-last.result c.past-last.ensures;
       room = c.loop-read.invariant.1;
       lists = c.loop-read.invariant.2;

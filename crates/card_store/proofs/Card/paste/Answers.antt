@@ -2,7 +2,7 @@ use Rattle.std.proofs.Common.{◌+◌, get_or, set, vec_items, refl, ap, ◌∙�
 use Rattle.std.proofs.lemmas.List.Edits.{paste_none, paste_more}
 use Rattle.model.specs.Bytes.{applied}
 use Rattle.card_store.specs.Cards.{card_row}
-use Rattle.card_store.proofs.CardFacts.{row_of, length-bytes, length-row}
+use Rattle.card_store.proofs.CardFacts.{row_of, length_bytes, length_row}
 use Rattle.store.specs.RowsLemmas.{pasted_front}
 use Rattle.card_store.proofs.Card.paste.Goals as goal
 
@@ -12,7 +12,7 @@ loop-i-init c = (paste_none (row_of c.args.self.now) c.args.p c.args.new.now, re
 pub loop-i-preserved : goal.loop-i-preserved
 loop-i-preserved c =
     let d = c.args.self.now in
-    let n = length-row d in (
+    let n = length_row d in (
       ap (λ b. card_row (vec_items c.set-byte.new.self.buffer) (vec_items b)) c.set-byte.ensures.blocks
           ∙ c.set-byte.ensures.row
           ∙ ap (λ r. set r (c.args.p + c.loop-i.i) (get_or c.args.new.now c.loop-i.i 0)) c.loop-i.invariant.0
@@ -25,8 +25,8 @@ pub returns : goal.returns
 unfolding applied
 returns c =
     let d = c.args.self.now in
-    let l = length-bytes d in
-    let n = length-row d in
+    let l = length_bytes d in
+    let n = length_row d in
     let m = c.max-self.ensures in
     let row = pasted_front (row_of d) _ d.len c.args.p c.args.new.now c.loop-i.i c.max-self.result c.loop-i.invariant.0 (omega arith) (omega arith) (omega arith) (omega arith) (omega arith) in
     record { row = row; trail = row; blocks = c.loop-i.invariant.1 }

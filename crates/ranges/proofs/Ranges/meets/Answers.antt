@@ -1,10 +1,10 @@
 -- Only the neighbours of its place can meet a range.
 use Rattle.std.proofs.Common.{◌∙◌}
-use Rattle.ranges.proofs.Order.{near-meets}
+use Rattle.ranges.proofs.Order.{near_meets}
 use Rattle.ranges.proofs.Ranges.meets.Goals as goal
 
 pub returns : goal.returns
 returns c =
     let d = c.args.self.now in
     let p = c.place-of-i.ensures in
-    c.is-near.ensures ∙ near-meets _ _ d.some d.ordered d.spans.ok.0 c.args.span _ p.within p.below p.above
+    c.is-near.ensures ∙ near_meets _ _ d.some d.ordered d.spans.ok.0 c.args.span _ p.within p.below p.above

@@ -2,7 +2,7 @@
 use Rattle.std.proofs.Common.{◌≡◌, true, is_ok, ap, ◌∙◌, arith}
 use Rattle.std.proofs.lemmas.Bool.{cond-true}
 use Rattle.model.specs.References.{span, meets}
-use Rattle.ranges.proofs.Order.{adds_inserted, some_more, ordered-more}
+use Rattle.ranges.proofs.Order.{adds_inserted, some_more, ordered_more}
 use Rattle.ranges.proofs.Ranges.put.Goals as goal
 
 pub invariant-of-self : goal.invariant-of-self
@@ -19,7 +19,7 @@ invariant-of-self c =
           λ k l. some_more _ _ d.some d.ordered d.spans.ok.0 c.args.span c.requires.some _ p.within p.below p.above c.requires.none _
               (w.by-index.0 (span 0 0) ok) (λ i h. w.by-index.1 i (span 0 0) h) (λ i h. w.by-index.2 i (span 0 0) ok h) k (omega arith),
           (
-            λ j k (h, l). ordered-more _ _ d.some d.ordered d.spans.ok.0 c.args.span c.requires.some _ p.within p.below p.above c.requires.none _
+            λ j k (h, l). ordered_more _ _ d.some d.ordered d.spans.ok.0 c.args.span c.requires.some _ p.within p.below p.above c.requires.none _
                 (w.by-index.0 (span 0 0) ok) (λ i h. w.by-index.1 i (span 0 0) h) (λ i h. w.by-index.2 i (span 0 0) ok h) j k (h, omega arith),
             tt,
           ),

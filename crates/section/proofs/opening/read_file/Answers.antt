@@ -1,9 +1,9 @@
 use Rattle.std.proofs.Common.{length, vec_items, refl, ap, ◌∙◌}
 use Rattle.refusals.specs.declared.faults.OpenFault.TheVariants as opening
 use Rattle.refusals.specs.Refusals.{header_told, list_told}
-use Rattle.section.proofs.Joined.{Right, header_refused, log-refused, holds-log, lists_refused, walked-of, data_refused, all_read, in-room}
+use Rattle.section.proofs.Joined.{Right, header_refused, log_refused, holds_log, lists_refused, walked_of, data_refused, all_read, in_room}
 use Rattle.section.proofs.Opens.{rows_number}
-use Rattle.section.proofs.Filled.{reads_err, log_of, logged-of, filed_of}
+use Rattle.section.proofs.Filled.{reads_err, log_of, logged_of, filed_of}
 use Rattle.section.proofs.opening.read_file.Goals as goal
 
 pub returns-in-err-checked : goal.returns-in-err-checked
@@ -18,7 +18,7 @@ returns-in-err-used g c =
     let right : Right _ _ _ = record { passes = c.in-ok-checked.ensures.0; is = c.in-ok-checked.ensures.1 } in
     record {
       file = reads_err _ _ _ c.read-log.new.room c.from-residual-in-err-used.result (opening.Log c.in-err-used.field-0.0) c.from-residual-in-err-used.ensures.1
-          (log-refused _ _ _ right c.in-err-used.field-0.0 c.in-err-used.ensures.log);
+          (log_refused _ _ _ right c.in-err-used.field-0.0 c.in-err-used.ensures.log);
       room = c.read-log.ensures.room;
     }
 

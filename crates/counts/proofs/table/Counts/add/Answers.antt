@@ -1,6 +1,6 @@
 -- Each of the parts takes the change up.
 use Rattle.std.proofs.Common.{ℕ, sym, refl, ◌∙◌, arith}
-use Rattle.counts.proofs.Newest.{newest-added, linked-added, early-added, steady-added, most-added}
+use Rattle.counts.proofs.Newest.{newest_added, linked_added, early_added, steady_added, most_added}
 use Rattle.counts.proofs.table.Counts.add.Goals as goal
 
 pub invariant-of-self : goal.invariant-of-self
@@ -12,9 +12,9 @@ invariant-of-self c =
     let e = c.newest-at-before.ensures ∙ d.newest c.args.list in
     let n = d.changes.ok.0 in
     let size = sym d.paired.0 ∙ d.links.ok.0 in
-    let newest = λ (id : ℕ). newest-added _ _ _ _ _ n a.items a.len id _ _ _ (omega arith) (l.holds id) (d.newest id) in
-    let linked = linked-added _ _ _ _ _ n a.items a.len _ _ _ size b.items e d.linked in
-    let early = early-added _ _ _ _ _ n a.items a.len _ refl d.early in
-    let steady = steady-added _ _ _ _ _ n a.items a.len _ refl d.early d.steady in
-    let most = most-added _ _ _ _ _ n a.items a.len _ _ c.max-self.ensures d.most in
+    let newest = λ (id : ℕ). newest_added _ _ _ _ _ n a.items a.len id _ _ _ (omega arith) (l.holds id) (d.newest id) in
+    let linked = linked_added _ _ _ _ _ n a.items a.len _ _ _ size b.items e d.linked in
+    let early = early_added _ _ _ _ _ n a.items a.len _ refl d.early in
+    let steady = steady_added _ _ _ _ _ n a.items a.len _ refl d.early d.steady in
+    let most = most_added _ _ _ _ _ n a.items a.len _ _ c.max-self.ensures d.most in
     ((omega arith, omega arith), ((omega arith, omega arith), ((omega arith, omega arith), (omega arith, (l.rises, (newest, (linked, (early, (steady, (most, tt))))))))))

@@ -1,12 +1,12 @@
 -- A change of a later transaction is passed over, and the one before it is of the same list.
 use Rattle.std.proofs.Common.{sym, ◌∙◌}
-use Rattle.counts.proofs.Newest.{back, back-less, arrived}
+use Rattle.counts.proofs.Newest.{back, back_less, arrived}
 use Rattle.counts.proofs.table.Counts.count_at.Goals as goal
 
 pub loop-at-smaller : goal.loop-at-smaller
 loop-at-smaller c =
     let v = c.loop-at.invariant in
-    back-less _ _ c.args.self.now.changes.ok.0 _ c.args.list _ v.0 v.1 c.loop-at-test.ensures _ c.before-at.ensures
+    back_less _ _ c.args.self.now.changes.ok.0 _ c.args.list _ v.0 v.1 c.loop-at-test.ensures _ c.before-at.ensures
 
 pub loop-at-preserved : goal.loop-at-preserved
 loop-at-preserved c =

@@ -1,6 +1,6 @@
 -- The lists hold the newest change of each.
 use Rattle.std.proofs.Common.{◌∙◌}
-use Rattle.counts.proofs.Newest.{at-within, at-is, at-noted, at-noted-at}
+use Rattle.counts.proofs.Newest.{at_within, at_is, at_noted, at_noted_at}
 use Rattle.counts.proofs.table.Counts.newest.Goals as goal
 
 pub returns : goal.returns
@@ -8,4 +8,4 @@ returns c =
     let d = c.args.self.now in
     let e = c.newest-at.ensures ∙ d.newest c.args.list in
     let n = d.changes.ok.0 in
-    record { within = at-within _ _ n _ _ e; is = at-is _ _ n _ _ e; noted = at-noted _ _ n _ _ e; noted_at = at-noted-at _ _ n _ _ e }
+    record { within = at_within _ _ n _ _ e; is = at_is _ _ n _ _ e; noted = at_noted _ _ n _ _ e; noted_at = at_noted_at _ _ n _ _ e }

@@ -2,7 +2,7 @@
 use Rattle.std.proofs.Common.{◌≡◌, true, is_ok, refl, ◌∙◌, arith}
 use Rattle.std.proofs.lemmas.Bool.{cond-true}
 use Rattle.pieces.specs.Placed.{no_piece}
-use Rattle.pieces.proofs.Placed.{ordered-more, fits_more, put_holds}
+use Rattle.pieces.proofs.Placed.{ordered_more, fits_more, put_holds}
 use Rattle.pieces.proofs.table.Pieces.put.Goals as goal
 
 pub invariant-of-self : goal.invariant-of-self
@@ -19,7 +19,7 @@ invariant-of-self c =
           λ k l. fits_more _ _ d.ordered d.rows.ok.0 _ _ _ place _ c.args.piece refl refl
               (w.by-index.0 no_piece ok) (λ i b. w.by-index.1 i no_piece b) (λ i b. w.by-index.2 i no_piece ok b) d.fits (omega arith) k (omega arith),
           (
-            λ j k (h, l). ordered-more _ _ d.ordered d.rows.ok.0 _ _ _ place _ c.args.piece refl refl
+            λ j k (h, l). ordered_more _ _ d.ordered d.rows.ok.0 _ _ _ place _ c.args.piece refl refl
                 (w.by-index.0 no_piece ok) (λ i b. w.by-index.1 i no_piece b) (λ i b. w.by-index.2 i no_piece ok b) j k (h, omega arith),
             tt,
           ),

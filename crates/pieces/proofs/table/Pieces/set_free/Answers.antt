@@ -1,7 +1,7 @@
 -- The list's last fragment stands before the place, or the list has none.
 use Rattle.std.proofs.Common.{◌<◌, refl, arith}
 use Rattle.std.proofs.lemmas.Bool.Decides.{nat_tests}
-use Rattle.pieces.proofs.Placed.{fits-set, ordered-set, is_none, is_some, none-freed, some-freed}
+use Rattle.pieces.proofs.Placed.{fits_set, ordered_set, is_none, is_some, none_freed, some_freed}
 use Rattle.pieces.proofs.table.Pieces.set_free.Goals as goal
 
 pub returns-then-not-ends : goal.returns-then-not-ends
@@ -10,7 +10,7 @@ returns-then-not-ends c =
     let place = c.place-behind-i.ensures in
     record {
       test = is_none _ _ d.ordered d.rows.ok.0 d.fits _ _ place c.if-not-ends.ensures;
-      rows = none-freed _ _ d.ordered d.rows.ok.0 d.fits _ _ place c.if-not-ends.ensures c.args.free;
+      rows = none_freed _ _ d.ordered d.rows.ok.0 d.fits _ _ place c.if-not-ends.ensures c.args.free;
       len = refl;
     }
 
@@ -20,7 +20,7 @@ returns c =
     let place = c.place-behind-i.ensures in
     record {
       test = is_some _ _ d.ordered d.rows.ok.0 d.fits _ _ place c.if-not-ends.ensures;
-      rows = some-freed _ _ d.ordered d.rows.ok.0 d.fits _ _ place c.if-not-ends.ensures c.args.free _ c.index-mut.ensures.value;
+      rows = some_freed _ _ d.ordered d.rows.ok.0 d.fits _ _ place c.if-not-ends.ensures c.args.free _ c.index-mut.ensures.value;
       len = refl;
     }
 
@@ -34,8 +34,8 @@ invariant-of-self c =
       (
         omega arith,
         (
-          fits-set _ _ d.ordered d.rows.ok.0 _ (omega arith) _ c.index-mut.ensures.value _ refl refl d.fits,
-          (ordered-set _ _ d.ordered d.rows.ok.0 _ (omega arith) _ c.index-mut.ensures.value _ refl refl, tt),
+          fits_set _ _ d.ordered d.rows.ok.0 _ (omega arith) _ c.index-mut.ensures.value _ refl refl d.fits,
+          (ordered_set _ _ d.ordered d.rows.ok.0 _ (omega arith) _ c.index-mut.ensures.value _ refl refl, tt),
         ),
       ),
     )
