@@ -3,7 +3,7 @@ use Rattle.std.proofs.Common.{◌≡◌, ℕ, ◌*◌, ◌<◌, List, length, ge
 use Rattle.card_store.specs.declared.Card.{Card}
 use Rattle.card_store.specs.Cards.{card_row, spot, Inside}
 use Rattle.std.proofs.lemmas.List.{length-take-le}
-use Rattle.card_store.proofs.CardRows.{length_card_row, getD_card_row, spot_bound, card_row_set}
+use Rattle.card_store.proofs.CardRows.{length_card_row, get_or_card_row, spot_bound, card_row_set}
 
 abbrev pub row_of : Card → List ℕ
 row_of d = card_row (vec_items d.buffer) (vec_items d.blocks)
@@ -20,7 +20,7 @@ module _ (d : Card) where
 
   module _ (k : ℕ) (h : k < 512 * vec_len d.blocks) where
     pub row_at : get_or (row_of d) k 0 ≡ get_or (vec_items d.buffer) (spot (vec_items d.blocks) k) 0
-    row_at = getD_card_row (vec_items d.buffer) (vec_items d.blocks) k card_inside (omega (arith, d.blocks.ok.0))
+    row_at = get_or_card_row (vec_items d.buffer) (vec_items d.blocks) k card_inside (omega (arith, d.blocks.ok.0))
 
     pub spot_in : spot (vec_items d.blocks) k < vec_len d.buffer
     spot_in = spot_bound (vec_len d.buffer) (vec_items d.blocks) k d.inside (omega (arith, d.blocks.ok.0))

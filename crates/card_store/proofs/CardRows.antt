@@ -29,10 +29,10 @@ spot_rest b bs k h =
     let m : k % 512 ≡ (k - 512) % 512 = omega arith in
     ap (λ i. 512 * get_or (b ∷ bs) i 0 + k % 512) q ∙ ap (λ i. 512 * get_or bs ((k - 512) / 512) 0 + i) m
 
-pub getD_card_row : (buffer blocks : List ℕ) (k : ℕ) → Inside (length buffer) blocks (length blocks) → k < 512 * length blocks
+pub get_or_card_row : (buffer blocks : List ℕ) (k : ℕ) → Inside (length buffer) blocks (length blocks) → k < 512 * length blocks
     → get_or (card_row buffer blocks) k 0 ≡ get_or buffer (spot blocks k) 0
-getD_card_row buffer [] k ins h = absurd (omega arith)
-getD_card_row buffer (b ∷ bs) k ins h =
+get_or_card_row buffer [] k ins h = absurd (omega arith)
+get_or_card_row buffer (b ∷ bs) k ins h =
     let l = length_block buffer b (ins 0 (omega arith)) in
     ⊎_elim
     (λ (lt : k < 512).
@@ -42,7 +42,7 @@ getD_card_row buffer (b ∷ bs) k ins h =
     ∙ ap (λ i. get_or buffer i 0) (sym (spot_first b bs k lt)))
     (λ (ge : 512 ≤ k).
     get_or-append_right (block buffer b) (card_row buffer bs) 512 k 0 l ge
-    ∙ getD_card_row buffer bs (k - 512) (inside_rest (length buffer) b bs ins) (omega arith)
+    ∙ get_or_card_row buffer bs (k - 512) (inside_rest (length buffer) b bs ins) (omega arith)
     ∙ ap (λ i. get_or buffer i 0) (sym (spot_rest b bs k ge)))
     (cases_lt k 512)
 
@@ -71,8 +71,8 @@ card_row_set buffer blocks k v ins apart h =
     let l' = length_card_row (set buffer (spot blocks k) v) blocks ins' in
     let n = length-set (card_row buffer blocks) k v in
     ext_get_or 0 _ _ (omega arith) (λ i b.
-    let at = getD_card_row (set buffer (spot blocks k) v) blocks i ins' (omega arith) in
-    let was = getD_card_row buffer blocks i ins (omega arith) in
+    let at = get_or_card_row (set buffer (spot blocks k) v) blocks i ins' (omega arith) in
+    let was = get_or_card_row buffer blocks i ins (omega arith) in
     let bound = spot_bound (length buffer) blocks k ins h in
     ⊎_elim
     (λ (e : i ≡ k).

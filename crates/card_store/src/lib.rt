@@ -7,7 +7,8 @@ ghost use Rattle.model.specs.Bytes.{put, piece, written, applied};
 ghost use Rattle.model.specs.Faults.{fault};
 ghost use Rattle.store.specs.Refusals.{told};
 ghost use Rattle.card_store.specs.Cards.{MapFits, Inside, Apart, card_row, spot};
-ghost use Rattle.store.specs.RowsLemmas.{applied_more};
+ghost use Rattle.store.specs.RowsLemmas.{applied_more, byte_take};
+ghost use Rattle.card_store.specs.CardLaws.{bytes_within, row_byte};
 
 use store::base::{NotMade, SavingStore, Store, StoreFault, has_room, is_empty_buffer};
 
@@ -134,11 +135,11 @@ impl Store for Card {
 
     ghost most = { λ s. 512 * vec_len s.blocks };
 
-    ghost within = { first_of (Prim.search rules, Prim.grind (arith, Self.row.coded.inj)) };
+    ghost within = { λ s. bytes_within s.buffer.items s.blocks.items s.len _ s.blocks.ok.0 };
 
     ghost fits = { first_of (Prim.search rules, Prim.grind (arith, Self.row.coded.inj)) };
 
-    ghost byte = { first_of (Prim.search rules, Prim.grind (arith, Self.row.coded.inj)) };
+    ghost byte = { λ s k. byte_take _ _ k (λ i h. row_byte s.buffer.items s.blocks.items s.byte i) };
 
     fn len(&self) -> u64 {
         self.size() as u64

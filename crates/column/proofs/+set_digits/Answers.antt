@@ -9,13 +9,13 @@ returns-then-n-lt10 t c = record {
   set = alone _ _ _ c.if-n-lt10.true c.requires.some c.requires.within;
 }
 
-pub set-digits-start-requires : goal.set-digits-start-requires
-set-digits-start-requires t c =
+pub set_digits-start-requires : goal.set_digits-start-requires
+set_digits-start-requires t c =
     let d = down _ _ c.if-n-lt10.false c.requires.fits in
     (omega (arith, c.decreases), (omega arith, (omega arith, d.0)))
 
 pub returns : goal.returns
 returns t c = record {
-  start = behind_size c.args.column.now _ _ _ c.if-n-lt10.false c.requires.some c.requires.within c.set-digits-start.ensures.start;
-  set = behind _ _ _ _ c.if-n-lt10.false c.requires.some c.requires.within c.set-digits-start.ensures.start _ c.set-digits-start.ensures.set;
+  start = behind_size c.args.column.now _ _ _ c.if-n-lt10.false c.requires.some c.requires.within c.set_digits-start.ensures.start;
+  set = behind _ _ _ _ c.if-n-lt10.false c.requires.some c.requires.within c.set_digits-start.ensures.start _ c.set_digits-start.ensures.set;
 }

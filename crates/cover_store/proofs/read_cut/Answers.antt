@@ -4,8 +4,8 @@ use Rattle.cover_store.specs.CoverRows.{read_cut}
 use Rattle.store.specs.RowsLemmas.{read_none}
 use Rattle.cover_store.proofs.read_cut.Goals as goal
 
-pub overflow-add-skip : goal.overflow-add-skip
-overflow-add-skip g c =
+pub overflow_add-skip : goal.overflow_add-skip
+overflow_add-skip g c =
     let l = length-drop c.args.skip (g.S.Store.bytes c.args.inner.now) in
     let w = g.met.S.Store.within c.args.inner.now in
     let f = g.met.S.Store.fits c.args.inner.now in

@@ -8,11 +8,11 @@ use Rattle.crc.proofs.spread.Goals as goal
 below : (r b : ℕ) → b < 256 → bit_xor (bit_and r 255) b < 256
 below r b h = xor_lt 8 (bit_and r 255) b (omega (arith, and_mask r 8)) h
 
-pub overflow-cast-result-2 : goal.overflow-cast-result-2
-overflow-cast-result-2 c = omega (arith, below c.args.register c.args.byte (omega arith))
+pub overflow_cast-result-2 : goal.overflow_cast-result-2
+overflow_cast-result-2 c = omega (arith, below c.args.register c.args.byte (omega arith))
 
-pub offset-bounds-zeros-register : goal.offset-bounds-zeros-register
-offset-bounds-zeros-register c = omega (arith, below c.args.register c.args.byte (omega arith))
+pub offset_bounds-zeros-register : goal.offset_bounds-zeros-register
+offset_bounds-zeros-register c = omega (arith, below c.args.register c.args.byte (omega arith))
 
 pub bounds-register : goal.bounds-register
 bounds-register c = below c.args.register c.args.byte (omega arith)

@@ -10,30 +10,30 @@ loop-nodes-init g c = (omega arith, scanned_none _ _ _ _ _ _ _)
 pub loop-nodes-preserved : goal.loop-nodes-preserved
 loop-nodes-preserved g c =
     let e = c.in-Some.ensures in (
-      (good_within c.in-Some.node.head _ _ c.if-is-bad.ensures).0,
-      scanned_more _ _ _ _ _ _ _ _ _ c.in-Some.node.head c.in-Some.node.reference c.loop-nodes.invariant.1 (omega arith) e.0 e.1 e.2 c.if-is-bad.ensures
-          c.in-ok-check-node.ensures,
+      (good_within c.in-Some.node.head _ _ c.if-is_bad.ensures).0,
+      scanned_more _ _ _ _ _ _ _ _ _ c.in-Some.node.head c.in-Some.node.reference c.loop-nodes.invariant.1 (omega arith) e.0 e.1 e.2 c.if-is_bad.ensures
+          c.in_ok-check_node.ensures,
     )
 
-pub returns-in-default : goal.returns-in-default
-returns-in-default g c = λ p q.
-    scanned_over _ _ _ _ _ _ _ _ _ p c.loop-nodes.invariant.1 (omega arith) c.in-default.ensures
-    (ap₂ (λ x y. nodes_at c.args.left (g.S.Store.bytes c.args.store.now) c.args.list x y []) (c.nodes-to-stop.ensures c.requires.inside) (c.nodes-from-place.ensures c.requires.inside) ∙ q)
+pub returns-in_default : goal.returns-in_default
+returns-in_default g c = λ p q.
+    scanned_over _ _ _ _ _ _ _ _ _ p c.loop-nodes.invariant.1 (omega arith) c.in_default.ensures
+    (ap₂ (λ x y. nodes_at c.args.left (g.S.Store.bytes c.args.store.now) c.args.list x y []) (c.nodes_to-stop.ensures c.requires.inside) (c.nodes_from-place.ensures c.requires.inside) ∙ q)
 
-pub returns-then-is-bad : goal.returns-then-is-bad
-returns-then-is-bad g c = λ p q.
+pub returns-then-is_bad : goal.returns-then-is_bad
+returns-then-is_bad g c = λ p q.
     let e = c.in-Some.ensures in
-    absurd (scanned_bad _ _ _ _ _ _ _ _ _ c.in-Some.node.head p c.loop-nodes.invariant.1 (omega arith) e.0 e.1 c.if-is-bad.ensures
-    (ap₂ (λ x y. nodes_at c.args.left (g.S.Store.bytes c.args.store.now) c.args.list x y []) (c.nodes-to-stop.ensures c.requires.inside) (c.nodes-from-place.ensures c.requires.inside) ∙ q))
+    absurd (scanned_bad _ _ _ _ _ _ _ _ _ c.in-Some.node.head p c.loop-nodes.invariant.1 (omega arith) e.0 e.1 c.if-is_bad.ensures
+    (ap₂ (λ x y. nodes_at c.args.left (g.S.Store.bytes c.args.store.now) c.args.list x y []) (c.nodes_to-stop.ensures c.requires.inside) (c.nodes_from-place.ensures c.requires.inside) ∙ q))
 
-pub returns-in-err-check-node : goal.returns-in-err-check-node
-returns-in-err-check-node g c = λ p q.
+pub returns-in_err-check_node : goal.returns-in_err-check_node
+returns-in_err-check_node g c = λ p q.
     let e = c.in-Some.ensures in
-    scanned_err _ _ _ _ _ _ _ _ _ c.in-Some.node.head c.in-Some.node.reference p c.from-residual.result c.in-err-check-node.field-0.0 c.loop-nodes.invariant.1 (omega arith)
-    e.0 e.1 e.2 c.if-is-bad.ensures c.from-residual.ensures.1 c.in-err-check-node.ensures
-    (ap₂ (λ x y. nodes_at c.args.left (g.S.Store.bytes c.args.store.now) c.args.list x y []) (c.nodes-to-stop.ensures c.requires.inside) (c.nodes-from-place.ensures c.requires.inside) ∙ q)
+    scanned_err _ _ _ _ _ _ _ _ _ c.in-Some.node.head c.in-Some.node.reference p c.from-residual.result c.in_err-check_node.field-0.0 c.loop-nodes.invariant.1 (omega arith)
+    e.0 e.1 e.2 c.if-is_bad.ensures c.from-residual.ensures.1 c.in_err-check_node.ensures
+    (ap₂ (λ x y. nodes_at c.args.left (g.S.Store.bytes c.args.store.now) c.args.list x y []) (c.nodes_to-stop.ensures c.requires.inside) (c.nodes_from-place.ensures c.requires.inside) ∙ q)
 
 pub returns : goal.returns
 returns g c = λ p q.
     scanned_end _ _ _ _ _ _ _ _ _ p c.loop-nodes.invariant.1 (omega arith)
-    (ap₂ (λ x y. nodes_at c.args.left (g.S.Store.bytes c.args.store.now) c.args.list x y []) (c.nodes-to-stop.ensures c.requires.inside) (c.nodes-from-place.ensures c.requires.inside) ∙ q)
+    (ap₂ (λ x y. nodes_at c.args.left (g.S.Store.bytes c.args.store.now) c.args.list x y []) (c.nodes_to-stop.ensures c.requires.inside) (c.nodes_from-place.ensures c.requires.inside) ∙ q)

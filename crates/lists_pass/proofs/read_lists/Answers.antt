@@ -5,11 +5,11 @@ use Rattle.lists_pass.proofs.read_lists.Goals as goal
 
 pub returns : goal.returns
 returns g c =
-    let n = c.name-first.ensures in
+    let n = c.name_first.ensures in
     record {
       answer = λ log holds empty.
-          c.read-named.ensures.answer log
+          c.read_named.ensures.answer log
           (holds_at log _ _ _ _ _ _ (ap (λ k. vec_items k.changes) n.counts) (ap vec_items n.fragments) (ap vec_items n.lists) holds)
           (held_first_names c.args.checked.now.header _ _ empty n.queue);
-      counts = c.read-named.ensures.counts ∙ n.counts;
+      counts = c.read_named.ensures.counts ∙ n.counts;
     }

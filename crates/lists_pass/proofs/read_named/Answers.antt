@@ -9,9 +9,9 @@ loop-next-init g c = (refl, inr refl, λ log holds held. opening_none _ c.args.h
 pub loop-next-preserved : goal.loop-next-preserved
 loop-next-preserved g c =
     let i = c.loop-next.invariant in
-    let x = c.in-ok-read-list.ensures.answer in
+    let x = c.in_ok-read_list.ensures.answer in
     let l : c.loop-next.next < length (vec_items c.loop-next.room.queue) = omega (arith, c.loop-next.room.queue.ok.0) in (
-      c.read-list.ensures.counts ∙ i.0,
+      c.read_list.ensures.counts ∙ i.0,
       inl (listed_few _ _ _ _ _ c.index-named.result.now _ _ _ _ x),
       λ log holds held. opening_more _ c.args.header.now log _ _ _ _ _ _ _ _ c.index-named.result.now (i.2 log holds held)
           (λ id. ap (λ k. noted (vec_items k.changes) id) i.0 ∙ holds.counts id) l c.index-named.ensures x,
@@ -26,17 +26,17 @@ returns-then-next-len g c =
       counts = i.0;
     }
 
-pub returns-in-err-read-list : goal.returns-in-err-read-list
-returns-in-err-read-list g c =
+pub returns-in_err-read_list : goal.returns-in_err-read_list
+returns-in_err-read_list g c =
     let i = c.loop-next.invariant in
     let l : c.loop-next.next < length (vec_items c.loop-next.room.queue) = omega (arith, c.loop-next.room.queue.ok.0) in
     record {
       answer = λ log holds held.
-          reads_err _ c.args.header.now log _ _ c.from-residual.result c.in-err-read-list.field-0.0 c.from-residual.ensures.1
+          reads_err _ c.args.header.now log _ _ c.from-residual.result c.in_err-read_list.field-0.0 c.from-residual.ensures.1
           (opening_refused _ c.args.header.now log _ _ _ _ _ c.index-named.result.now _ (i.2 log holds held)
           (λ id. ap (λ k. noted (vec_items k.changes) id) i.0 ∙ holds.counts id) l c.loop-next-test.true c.index-named.ensures
-          c.in-err-read-list.ensures.answer);
-      counts = c.read-list.ensures.counts ∙ i.0;
+          c.in_err-read_list.ensures.answer);
+      counts = c.read_list.ensures.counts ∙ i.0;
     }
 
 pub returns : goal.returns

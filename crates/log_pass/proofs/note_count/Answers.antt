@@ -31,7 +31,7 @@ returns c =
         reading k.transactions (k.pending ++ (c.args.entry ∷ [])),
         c.args.place ∷ [],
         met_count _ c.args.place _ _ _ k h c.args.entry c.requires.source (omega arith),
-        holds_count _ c.args.place _ _ _ k h c.args.entry c.args.bytes.now c.requires.bytes _ _ _ (s.changes ∙ cond-true _ _ _ t) s.finished c.update-slice.ensures,
+        holds_count _ c.args.place _ _ _ k h c.args.entry c.args.bytes.now c.requires.bytes _ _ _ (s.changes ∙ cond-true _ _ _ t) s.finished c.update_slice.ensures,
         s.len ∙ cond-true _ _ _ t,
       );
       room = s.room;

@@ -14,8 +14,8 @@ loop-i-preserved c =
     let k = c.args.p + c.loop-i.i in
     let n = length_row d in
     let x : c.index.result.now ≡ get_or (row_of d) k 0
-    = get_or_read_under _ _ _ _ 0 c.index.ensures c.spot-of.ensures.bound d.buffer.ok.0
-    ∙ ap (λ at. get_or (vec_items d.buffer) at 0) c.spot-of.ensures.value ∙ sym (row_at d k (omega arith)) in
+    = get_or_read_under _ _ _ _ 0 c.index.ensures c.spot_of.ensures.bound d.buffer.ok.0
+    ∙ ap (λ at. get_or (vec_items d.buffer) at 0) c.spot_of.ensures.value ∙ sym (row_at d k (omega arith)) in
     read_more (row_of d) c.args.into.now c.loop-i.into c.args.p c.loop-i.i c.index.result.now (omega arith) (omega arith) c.loop-i.invariant x
 
 pub returns : goal.returns

@@ -13,12 +13,12 @@ pub loop-i-preserved : goal.loop-i-preserved
 loop-i-preserved c =
     let d = c.args.self.now in
     let n = length_row d in (
-      ap (λ b. card_row (vec_items c.set-byte.new.self.buffer) (vec_items b)) c.set-byte.ensures.blocks
-          ∙ c.set-byte.ensures.row
+      ap (λ b. card_row (vec_items c.set_byte.new.self.buffer) (vec_items b)) c.set_byte.ensures.blocks
+          ∙ c.set_byte.ensures.row
           ∙ ap (λ r. set r (c.args.p + c.loop-i.i) (get_or c.args.new.now c.loop-i.i 0)) c.loop-i.invariant.0
           ∙ paste_more (row_of d) c.args.p c.args.new.now c.loop-i.i 0 (omega arith) (omega arith),
-      c.set-byte.ensures.blocks ∙ c.loop-i.invariant.1,
-      c.set-byte.ensures.len ∙ c.loop-i.invariant.2,
+      c.set_byte.ensures.blocks ∙ c.loop-i.invariant.1,
+      c.set_byte.ensures.len ∙ c.loop-i.invariant.2,
     )
 
 pub returns : goal.returns

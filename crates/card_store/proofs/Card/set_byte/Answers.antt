@@ -6,7 +6,7 @@ use Rattle.card_store.proofs.Card.set_byte.Goals as goal
 pub returns : goal.returns
 returns c =
     record {
-      row = ap (λ at. card_row (set (vec_items c.args.self.now.buffer) at c.args.b) (vec_items c.args.self.now.blocks)) c.spot-of-at.ensures.value
+      row = ap (λ at. card_row (set (vec_items c.args.self.now.buffer) at c.args.b) (vec_items c.args.self.now.blocks)) c.spot_of-at.ensures.value
           ∙ row_set c.args.self.now c.args.k c.requires c.args.b;
       blocks = refl;
       len = refl;

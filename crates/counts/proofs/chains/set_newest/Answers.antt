@@ -23,7 +23,7 @@ returns-else-stands c =
       holds = λ z. ap (listed z) (w.items ∙ cond-true _ _ _ ok)
           ∙ inserted_holds _ _ c.requires.rises c.args.lists.now.ok.0 _ _ c.requires.place c.args.counted refl z;
       rises = λ j k (h, l). inserted_rises _ _ c.requires.rises c.args.lists.now.ok.0 _ _ c.requires.place c.args.counted refl c.if-stands.ensures _
-          (w.by-index.0 no_list ok) (λ i b. w.by-index.1 i no_list b) (λ i b. w.by-index.2 i no_list ok b) j k (h, omega arith);
+          (w.by_index.0 no_list ok) (λ i b. w.by_index.1 i no_list b) (λ i b. w.by_index.2 i no_list ok b) j k (h, omega arith);
       len = omega arith;
       capacity = w.capacity;
     }

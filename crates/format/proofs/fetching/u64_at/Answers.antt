@@ -7,5 +7,5 @@ pub returns : goal.returns
 unfolding le
 returns g c =
     let row = g.S.Store.bytes c.args.store.now in
-    let e : c.from-le-bytes.result ≡ le 8 c.fetch.new.buffer 0 = omega (arith, c.from-le-bytes.ensures) in
+    let e : c.from_le_bytes.result ≡ le 8 c.fetch.new.buffer 0 = omega (arith, c.from_le_bytes.ensures) in
     e ∙ le_window 8 row c.fetch.new.buffer c.args.place 0 c.fetch.ensures (omega arith) ∙ ap (le 8 row) (add-zero c.args.place)

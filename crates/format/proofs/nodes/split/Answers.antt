@@ -8,4 +8,4 @@ pub returns-in-len4-up : goal.returns-in-len4-up
 unfolding le
 returns-in-len4-up c =
     let four : 4 ≤ length c.args.node.now = search rules in
-    (four, c.fields.ensures ∙ ap head_of (c.from-le-bytes-v.ensures ∙ omega arith), between_to_end c.args.node.now 4 _ (le_refl _))
+    (four, c.fields.ensures ∙ ap head_of (c.from_le_bytes-v.ensures ∙ omega arith), between_to_end c.args.node.now 4 _ (le_refl _))

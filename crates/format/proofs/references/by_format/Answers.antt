@@ -15,6 +15,6 @@ pub returns-in-2 : goal.returns-in-2
 unfolding by_format
 returns-in-2 c = grind (arith, nat_tests)
 
-pub returns-in-default : goal.returns-in-default
+pub returns-in_default : goal.returns-in_default
 unfolding by_format
-returns-in-default c = grind (arith, nat_tests)
+returns-in_default c = grind (arith, nat_tests)

@@ -6,15 +6,15 @@ use Rattle.format.proofs.references.number.Goals as goal
 pub loop-i-init : goal.loop-i-init
 loop-i-init c = (omega arith, le_none c.args.n c.args.bytes.now (c.args.p + c.args.n), pow_none c.args.n)
 
-pub overflow-mul-v : goal.overflow-mul-v
-overflow-mul-v c =
-    let r = le_room c.args.n c.loop-i.i c.args.bytes.now (c.args.p + c.loop-i.i) (λ i. omega (arith, c.type-inv.bytes i)) (omega arith) (omega arith) in
+pub overflow_mul-v : goal.overflow_mul-v
+overflow_mul-v c =
+    let r = le_room c.args.n c.loop-i.i c.args.bytes.now (c.args.p + c.loop-i.i) (λ i. omega (arith, c.type_inv.bytes i)) (omega arith) (omega arith) in
     omega arith
 
-pub overflow-add-v : goal.overflow-add-v
-overflow-add-v c =
-    let r = le_room c.args.n c.loop-i.i c.args.bytes.now (c.args.p + c.loop-i.i) (λ i. omega (arith, c.type-inv.bytes i)) (omega arith) (omega arith) in
-    omega (arith, c.type-inv.bytes (c.args.p + (c.loop-i.i - 1)))
+pub overflow_add-v : goal.overflow_add-v
+overflow_add-v c =
+    let r = le_room c.args.n c.loop-i.i c.args.bytes.now (c.args.p + c.loop-i.i) (λ i. omega (arith, c.type_inv.bytes i)) (omega arith) (omega arith) in
+    omega (arith, c.type_inv.bytes (c.args.p + (c.loop-i.i - 1)))
 
 pub loop-i-preserved : goal.loop-i-preserved
 loop-i-preserved c =
@@ -22,7 +22,7 @@ loop-i-preserved c =
     let i = c.loop-i.i in
     let e = le_more n i c.args.bytes.now c.args.p (omega arith) (omega arith) in
     let v : c.loop-i.v * 256 + get_or c.args.bytes.now (c.args.p + (i - 1)) 0 ≡ le (n - (i - 1)) c.args.bytes.now (c.args.p + (i - 1)) = omega arith in
-    (omega arith, v, omega (arith, v, le_lt (n - (i - 1)) c.args.bytes.now (c.args.p + (i - 1)) (λ j. omega (arith, c.type-inv.bytes j))))
+    (omega arith, v, omega (arith, v, le_lt (n - (i - 1)) c.args.bytes.now (c.args.p + (i - 1)) (λ j. omega (arith, c.type_inv.bytes j))))
 
 pub returns : goal.returns
 returns c =

@@ -6,27 +6,27 @@ use Rattle.section.proofs.Opens.{rows_number}
 use Rattle.section.proofs.Filled.{reads_err, log_of, logged_of, filed_of}
 use Rattle.section.proofs.opening.read_file.Goals as goal
 
-pub returns-in-err-checked : goal.returns-in-err-checked
-returns-in-err-checked g c = record {
-  file = reads_err _ _ _ _ c.from-residual.result (opening.Header c.in-err-checked.field-0.0) c.from-residual.ensures.1
-      (header_refused _ _ _ (header_told c.in-err-checked.field-0.0) c.in-err-checked.ensures);
+pub returns-in_err-checked : goal.returns-in_err-checked
+returns-in_err-checked g c = record {
+  file = reads_err _ _ _ _ c.from-residual.result (opening.Header c.in_err-checked.field-0.0) c.from-residual.ensures.1
+      (header_refused _ _ _ (header_told c.in_err-checked.field-0.0) c.in_err-checked.ensures);
   room = refl;
 }
 
-pub returns-in-err-used : goal.returns-in-err-used
-returns-in-err-used g c =
-    let right : Right _ _ _ = record { passes = c.in-ok-checked.ensures.0; is = c.in-ok-checked.ensures.1 } in
+pub returns-in_err-used : goal.returns-in_err-used
+returns-in_err-used g c =
+    let right : Right _ _ _ = record { passes = c.in_ok-checked.ensures.0; is = c.in_ok-checked.ensures.1 } in
     record {
-      file = reads_err _ _ _ c.read-log.new.room c.from-residual-in-err-used.result (opening.Log c.in-err-used.field-0.0) c.from-residual-in-err-used.ensures.1
-          (log_refused _ _ _ right c.in-err-used.field-0.0 c.in-err-used.ensures.log);
-      room = c.read-log.ensures.room;
+      file = reads_err _ _ _ c.read_log.new.room c.from-residual-in_err-used.result (opening.Log c.in_err-used.field-0.0) c.from-residual-in_err-used.ensures.1
+          (log_refused _ _ _ right c.in_err-used.field-0.0 c.in_err-used.ensures.log);
+      room = c.read_log.ensures.room;
     }
 
-pub returns-in-err-read-lists : goal.returns-in-err-read-lists
-returns-in-err-read-lists g c = ?
+pub returns-in_err-read_lists : goal.returns-in_err-read_lists
+returns-in_err-read_lists g c = ?
 
-pub returns-in-err-check-data : goal.returns-in-err-check-data
-returns-in-err-check-data g c = ?
+pub returns-in_err-check_data : goal.returns-in_err-check_data
+returns-in_err-check_data g c = ?
 
 pub returns : goal.returns
 returns g c = ?

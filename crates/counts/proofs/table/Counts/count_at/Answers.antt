@@ -17,4 +17,4 @@ loop-at-preserved c =
 pub returns : goal.returns
 returns c =
     let v = c.loop-at.invariant in
-    c.count-of.ensures ∙ arrived _ _ c.args.self.now.changes.ok.0 _ _ _ v.0 v.1 c.loop-at-test.ensures ∙ sym v.2
+    c.count_of.ensures ∙ arrived _ _ c.args.self.now.changes.ok.0 _ _ _ v.0 v.1 c.loop-at-test.ensures ∙ sym v.2

@@ -5,5 +5,5 @@ use Rattle.encoding.proofs.buffer.WriteBuffer.begin_fragment.Goals as goal
 
 pub returns : goal.returns
 returns c =
-    pushed_three c.args.self.now c.push-number.new.self c.push-number-2.new.self c.push-number-3.new.self
-    (digits 8 first_mark) (digits 4 c.args.list) (digits 4 c.args.number) c.push-number.ensures c.push-number-2.ensures c.push-number-3.ensures
+    pushed_three c.args.self.now c.push_number.new.self c.push_number-2.new.self c.push_number-3.new.self
+    (digits 8 first_mark) (digits 4 c.args.list) (digits 4 c.args.number) c.push_number.ensures c.push_number-2.ensures c.push_number-3.ensures

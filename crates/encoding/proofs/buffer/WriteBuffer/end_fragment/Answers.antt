@@ -7,5 +7,5 @@ use Rattle.encoding.proofs.buffer.WriteBuffer.end_fragment.Goals as goal
 
 pub returns : goal.returns
 returns c =
-    pushed_three c.args.self.now c.push-zeros.new.self c.push-span.new.self c.push-number.new.self
-    (zeros c.args.left) (span_bytes nil) (digits 8 last_mark) c.push-zeros.ensures c.push-span.ensures c.push-number.ensures
+    pushed_three c.args.self.now c.push_zeros.new.self c.push_span.new.self c.push_number.new.self
+    (zeros c.args.left) (span_bytes nil) (digits 8 last_mark) c.push_zeros.ensures c.push_span.ensures c.push_number.ensures

@@ -5,6 +5,6 @@ use Rattle.encoding.proofs.buffer.WriteBuffer.push_bytes.Goals as goal
 pub returns : goal.returns
 returns c =
     let was = c.args.self.now in
-    let e = c.extend-from-slice.ensures in
-    extended (is_ok c.extend-from-slice.result) (held was) c.args.new.now _ (vec_len was.bytes) (c.min-n.result - 0) (vec_capacity was.bytes)
+    let e = c.extend_from_slice.ensures in
+    extended (is_ok c.extend_from_slice.result) (held was) c.args.new.now _ (vec_len was.bytes) (c.min-n.result - 0) (vec_capacity was.bytes)
     e.items e.succeeds (omega arith) (omega arith) (omega arith) (omega arith)

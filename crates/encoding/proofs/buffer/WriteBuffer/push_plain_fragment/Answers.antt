@@ -4,8 +4,8 @@ use Rattle.encoding.proofs.buffer.WriteBuffer.push_plain_fragment.Goals as goal
 
 pub returns : goal.returns
 returns c =
-    let left = c.saturating-sub.result in
+    let left = c.saturating_sub.result in
     let payload = c.args.payload.now in
     fragment_pushed c.args.list c.args.number left (plain_node c.args.id payload)
-    c.args.self.now c.begin-fragment.new.self c.push-plain-node.new.self c.end-fragment.new.self
-    (plain_left c.args.id payload left c.saturating-sub.ensures) c.begin-fragment.ensures c.push-plain-node.ensures c.end-fragment.ensures
+    c.args.self.now c.begin_fragment.new.self c.push_plain_node.new.self c.end_fragment.new.self
+    (plain_left c.args.id payload left c.saturating_sub.ensures) c.begin_fragment.ensures c.push_plain_node.ensures c.end_fragment.ensures

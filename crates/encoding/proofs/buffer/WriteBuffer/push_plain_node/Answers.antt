@@ -8,5 +8,5 @@ pub returns : goal.returns
 returns c =
     let was = c.args.self.now in
     let payload = c.args.payload.now in
-    pushed_two was c.push-number.new.self c.push-bytes.new.self (node_head c.args.id (4 + length payload) 0) payload
-    (c.push-number.ensures ∙ ap (pushed (held was)) c.head_number.ensures) c.push-bytes.ensures
+    pushed_two was c.push_number.new.self c.push_bytes.new.self (node_head c.args.id (4 + length payload) 0) payload
+    (c.push_number.ensures ∙ ap (pushed (held was)) c.head_number.ensures) c.push_bytes.ensures

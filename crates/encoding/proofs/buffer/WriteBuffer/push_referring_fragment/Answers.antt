@@ -4,9 +4,9 @@ use Rattle.encoding.proofs.buffer.WriteBuffer.push_referring_fragment.Goals as g
 
 pub returns : goal.returns
 returns c =
-    let left = c.saturating-sub.result in
+    let left = c.saturating_sub.result in
     let r = c.args.span in
     let payload = c.args.payload.now in
     fragment_pushed c.args.list c.args.number left (referring_node c.args.id c.args.base r payload)
-    c.args.self.now c.begin-fragment.new.self c.push-referring-node.new.self c.end-fragment.new.self
-    (referring_left c.args.id c.args.base r payload left c.saturating-sub.ensures) c.begin-fragment.ensures c.push-referring-node.ensures c.end-fragment.ensures
+    c.args.self.now c.begin_fragment.new.self c.push_referring_node.new.self c.end_fragment.new.self
+    (referring_left c.args.id c.args.base r payload left c.saturating_sub.ensures) c.begin_fragment.ensures c.push_referring_node.ensures c.end_fragment.ensures

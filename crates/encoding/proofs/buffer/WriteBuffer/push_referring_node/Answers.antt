@@ -9,6 +9,6 @@ pub returns : goal.returns
 returns c =
     let was = c.args.self.now in
     let payload = c.args.payload.now in
-    pushed_three was c.push-number.new.self c.push-span.new.self c.push-bytes.new.self
+    pushed_three was c.push_number.new.self c.push_span.new.self c.push_bytes.new.self
     (node_head c.args.id (16 + length payload) c.args.base) (span_bytes c.args.span) payload
-    (c.push-number.ensures ∙ ap (pushed (held was)) c.head_number.ensures) c.push-span.ensures c.push-bytes.ensures
+    (c.push_number.ensures ∙ ap (pushed (held was)) c.head_number.ensures) c.push_span.ensures c.push_bytes.ensures

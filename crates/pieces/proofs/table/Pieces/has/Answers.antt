@@ -4,4 +4,4 @@ use Rattle.pieces.proofs.Kept.{some_last}
 use Rattle.pieces.proofs.table.Pieces.has.Goals as goal
 
 pub returns : goal.returns
-returns c = c.is-some.ensures ∙ ap is_some c.last.ensures ∙ some_last _
+returns c = c.is_some.ensures ∙ ap is_some c.last.ensures ∙ some_last _

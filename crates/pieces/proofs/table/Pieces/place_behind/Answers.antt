@@ -5,14 +5,14 @@ use Rattle.pieces.specs.Placed.{no_piece, up_to}
 use Rattle.pieces.proofs.Placed.{below_step, above_step}
 use Rattle.pieces.proofs.table.Pieces.place_behind.Goals as goal
 
-pub loop-low-preserved-then-is-up-to : goal.loop-low-preserved-then-is-up-to
-loop-low-preserved-then-is-up-to c =
+pub loop-low-preserved-then-is_up_to : goal.loop-low-preserved-then-is_up_to
+loop-low-preserved-then-is_up_to c =
     let d = c.args.self.now in
     let e = ap (up_to c.args.list c.args.from) (get_or_read_under _ _ _ _ no_piece c.index.ensures (omega arith) d.rows.ok.0) in
-    (omega arith, omega arith, below_step (vec_items d.rows) _ d.ordered c.args.list c.args.from _ (omega arith) (sym e ∙ sym c.if-is-up-to.ensures), c.loop-low.invariant.3)
+    (omega arith, omega arith, below_step (vec_items d.rows) _ d.ordered c.args.list c.args.from _ (omega arith) (sym e ∙ sym c.if-is_up_to.ensures), c.loop-low.invariant.3)
 
 pub loop-low-preserved : goal.loop-low-preserved
 loop-low-preserved c =
     let d = c.args.self.now in
     let e = ap (up_to c.args.list c.args.from) (get_or_read_under _ _ _ _ no_piece c.index.ensures (omega arith) d.rows.ok.0) in
-    (omega arith, omega arith, c.loop-low.invariant.2, above_step (vec_items d.rows) _ d.ordered c.args.list c.args.from _ (sym e ∙ sym c.if-is-up-to.ensures))
+    (omega arith, omega arith, c.loop-low.invariant.2, above_step (vec_items d.rows) _ d.ordered c.args.list c.args.from _ (sym e ∙ sym c.if-is_up_to.ensures))
