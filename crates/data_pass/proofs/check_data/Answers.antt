@@ -13,8 +13,8 @@ loop-k-preserved g c = λ log ls walked filed.
 pub returns-in_err-check_list : goal.returns-in_err-check_list
 returns-in_err-check_list g c = λ log ls walked filed.
     let l : c.loop-k.k < length (vec_items c.args.room.now.lists) = omega (arith, c.args.room.now.lists.ok.0) in
-    seen_err _ c.args.checked.now.header log ls _ _ _ c.index.result.now c.in_err-check_list.field-0.0 c.from-residual.result walked filed
-    (c.loop-k.invariant log ls walked filed) l c.index.ensures c.in_err-check_list.ensures c.from-residual.ensures.1
+    seen_err _ c.args.checked.now.header log ls _ _ _ c.index.result.now c.in_err-check_list.field-0.0 c.from_residual.result walked filed
+    (c.loop-k.invariant log ls walked filed) l c.index.ensures c.in_err-check_list.ensures c.from_residual.ensures.1
 
 pub returns : goal.returns
 returns g c = λ log ls walked filed.

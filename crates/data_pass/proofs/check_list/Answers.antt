@@ -30,8 +30,8 @@ returns-then-fragment-lt36 g c = λ l x.
 pub returns-in_err-left : goal.returns-in_err-left
 returns-in_err-left g c = λ l x.
     let lt : c.loop-at.at < c.args.row.first + c.args.row.fragments = omega (arith, c.saturating_add-at-end.ensures) in
-    walk_err _ _ c.args.row _ l _ _ c.index-fragment.result.now c.in_err-left.field-0.0 c.from-residual.result x (c.loop-at.invariant l x) c.loop-at.auto.at lt
-    c.index-fragment.ensures c.in_err-left.ensures c.from-residual.ensures.1
+    walk_err _ _ c.args.row _ l _ _ c.index-fragment.result.now c.in_err-left.field-0.0 c.from_residual.result x (c.loop-at.invariant l x) c.loop-at.auto.at lt
+    c.index-fragment.ensures c.in_err-left.ensures c.from_residual.ensures.1
 
 pub returns : goal.returns
 returns g c = λ l x.

@@ -29,8 +29,8 @@ returns-then-is_bad g c = λ p q.
 pub returns-in_err-check_node : goal.returns-in_err-check_node
 returns-in_err-check_node g c = λ p q.
     let e = c.in-Some.ensures in
-    scanned_err _ _ _ _ _ _ _ _ _ c.in-Some.node.head c.in-Some.node.reference p c.from-residual.result c.in_err-check_node.field-0.0 c.loop-nodes.invariant.1 (omega arith)
-    e.0 e.1 e.2 c.if-is_bad.ensures c.from-residual.ensures.1 c.in_err-check_node.ensures
+    scanned_err _ _ _ _ _ _ _ _ _ c.in-Some.node.head c.in-Some.node.reference p c.from_residual.result c.in_err-check_node.field-0.0 c.loop-nodes.invariant.1 (omega arith)
+    e.0 e.1 e.2 c.if-is_bad.ensures c.from_residual.ensures.1 c.in_err-check_node.ensures
     (ap₂ (λ x y. nodes_at c.args.left (g.S.Store.bytes c.args.store.now) c.args.list x y []) (c.nodes_to-stop.ensures c.requires.inside) (c.nodes_from-place.ensures c.requires.inside) ∙ q)
 
 pub returns : goal.returns

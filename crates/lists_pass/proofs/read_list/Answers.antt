@@ -33,7 +33,7 @@ pub returns-in_err-begun : goal.returns-in_err-begun
 returns-in_err-begun g c =
     let l : length (vec_items c.args.room.now.lists) < 1024 = omega arith in
     record {
-      answer = listed_refused _ _ _ _ _ c.args.named _ _ _ _ c.from-residual.result c.in_err-begun.field-0.0 l c.from-residual.ensures.1
+      answer = listed_refused _ _ _ _ _ c.args.named _ _ _ _ c.from_residual.result c.in_err-begun.field-0.0 l c.from_residual.ensures.1
           c.in_err-begun.ensures.answer;
       counts = c.begin_list.ensures.counts;
     }

@@ -32,7 +32,7 @@ returns-in_err-read_list g c =
     let l : c.loop-next.next < length (vec_items c.loop-next.room.queue) = omega (arith, c.loop-next.room.queue.ok.0) in
     record {
       answer = λ log holds held.
-          reads_err _ c.args.header.now log _ _ c.from-residual.result c.in_err-read_list.field-0.0 c.from-residual.ensures.1
+          reads_err _ c.args.header.now log _ _ c.from_residual.result c.in_err-read_list.field-0.0 c.from_residual.ensures.1
           (opening_refused _ c.args.header.now log _ _ _ _ _ c.index-named.result.now _ (i.2 log holds held)
           (λ id. ap (λ k. noted (vec_items k.changes) id) i.0 ∙ holds.counts id) l c.loop-next-test.true c.index-named.ensures
           c.in_err-read_list.ensures.answer);

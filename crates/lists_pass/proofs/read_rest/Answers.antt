@@ -10,7 +10,7 @@ pub returns-in_err-part : goal.returns-in_err-part
 returns-in_err-part g c =
     let i = c.loop-sequence.invariant in
     record {
-      answer = rests_err _ _ _ c.args.begun _ _ _ _ _ c.from-residual.result c.in_err-part.field-0.0 c.from-residual.ensures.1
+      answer = rests_err _ _ _ c.args.begun _ _ _ _ _ c.from_residual.result c.in_err-part.field-0.0 c.from_residual.ensures.1
           (listing_bad _ _ _ c.args.begun c.loop-sequence.fragment _ _ _ _ _ _ i.6 c.in_err-part.ensures.answer);
       counts = c.read_nodes.ensures.counts ∙ i.4;
     }
@@ -35,7 +35,7 @@ returns-in_err-fragment g c =
     let few = c.in_ok-part.ensures.few in
     let l : c.loop-sequence.nodes + c.in_ok-part.part.nodes < c.args.begun.count = omega arith in
     record {
-      answer = rests_err _ _ _ c.args.begun _ _ _ _ _ c.from-residual-in_err-fragment.result c.in_err-fragment.field-0.0 c.from-residual-in_err-fragment.ensures.1
+      answer = rests_err _ _ _ c.args.begun _ _ _ _ _ c.from_residual-in_err-fragment.result c.in_err-fragment.field-0.0 c.from_residual-in_err-fragment.ensures.1
           (listing_refused _ _ _ c.args.begun c.loop-sequence.fragment _ _ _ _ _ _ _ _ _
           (listing_at _ _ _ c.args.begun c.loop-sequence.fragment _ _ _ _ _ _ (ap vec_items r.fragments) i.6)
           c.in_ok-part.ensures.answer l c.in_err-fragment.ensures.answer);

@@ -13,12 +13,12 @@ returns-in_err-take_entry g c =
     let new = c.take_entry.new.counts in
     let l : c.loop-i.i < entries_in c.args.fragment.size = omega (arith, c.entries_in-n.ensures) in
     let r : vec_len c.loop-i.counts.changes ≤ c.loop-i.counts.room = c.loop-i.counts.held.0 in
-    let e = err_from_is_err_and c.from-residual.result c.from-residual.ensures.1 in
+    let e = err_from_is_err_and c.from_residual.result c.from_residual.ensures.1 in
     record {
       read = λ k h.
           let w = c.loop-i.invariant.1 k h in
           wrong_at b c.args.count f k (vec_len c.args.counts.now.changes) c.loop-i.i (vec_items at'.changes) at'.finished c.loop-i.crc.register (vec_len at'.changes) w
-          c.entry_at.result.0 c.entry_at.ensures.entry l at'.room c.args.counts.now.room c.loop-i.invariant.0 r c.in_err-take_entry.field-0.0 c.from-residual.result (e.1 ∙ ap Err e.2)
+          c.entry_at.result.0 c.entry_at.ensures.entry l at'.room c.args.counts.now.room c.loop-i.invariant.0 r c.in_err-take_entry.field-0.0 c.from_residual.result (e.1 ∙ ap Err e.2)
           (vec_items new.changes) new.finished c.take_entry.new.crc.register (vec_len new.changes) (c.in_err-take_entry.ensures.takes w.to w.holds);
       room = c.take_entry.ensures.room ∙ c.loop-i.invariant.0;
     }

@@ -21,14 +21,14 @@ returns-in_err-used g c =
     let new = c.read_fragment.new.room in
     let w = c.loop-read.invariant.0 in
     let s = c.read_fragment.ensures in
-    let l : c.loop-read.-read < 2048 = omega arith in
-    let e = err_from_is_err_and c.from-residual.result c.from-residual.ensures.1 in
+    let l : c.loop-read._read < 2048 = omega arith in
+    let e = err_from_is_err_and c.from_residual.result c.from_residual.ensures.1 in
     record {
       log =
-          wrong_at b c.args.header.now c.loop-read.-read (vec_items d.fragments) c.loop-read.field c.loop-read.fragment (vec_items d.counts.changes) d.counts.finished
+          wrong_at b c.args.header.now c.loop-read._read (vec_items d.fragments) c.loop-read.field c.loop-read.fragment (vec_items d.counts.changes) d.counts.finished
           c.loop-read.crc.register (vec_len d.counts.changes) w l d.counts.room c.args.room.now.counts.room c.loop-read.invariant.1 d.counts.held.0
-          c.in_err-used.field-0.0 c.from-residual.result (e.1 ∙ ap Err e.2) (vec_items new.fragments) (vec_items new.counts.changes) new.counts.finished
-          (c.in_err-used.ensures.read (2047 - c.loop-read.-read) w.to w.holds);
+          c.in_err-used.field-0.0 c.from_residual.result (e.1 ∙ ap Err e.2) (vec_items new.fragments) (vec_items new.counts.changes) new.counts.finished
+          (c.in_err-used.ensures.read (2047 - c.loop-read._read) w.to w.holds);
       room = s.room ∙ c.loop-read.invariant.1;
       lists = s.lists ∙ c.loop-read.invariant.2;
       queue = s.queue ∙ c.loop-read.invariant.3;
@@ -41,15 +41,15 @@ returns-in-Some g c =
     let new = c.read_fragment.new.room in
     let w = c.loop-read.invariant.0 in
     let s = c.read_fragment.ensures in
-    let l : c.loop-read.-read < 2048 = omega arith in
+    let l : c.loop-read._read < 2048 = omega arith in
     let r : vec_len c.read_fragment.new.room.counts.changes ≤ c.args.room.now.counts.room
     = omega (arith, c.read_fragment.new.room.counts.held.0, c.read_fragment.ensures.room, c.loop-read.invariant.1) in
     record {
       log =
-          ends_at b c.args.header.now c.loop-read.-read (vec_items d.fragments) c.loop-read.field c.loop-read.fragment (vec_items d.counts.changes) d.counts.finished
+          ends_at b c.args.header.now c.loop-read._read (vec_items d.fragments) c.loop-read.field c.loop-read.fragment (vec_items d.counts.changes) d.counts.finished
           c.loop-read.crc.register (vec_len d.counts.changes) w l d.counts.room c.args.room.now.counts.room c.in-Some.used
           (vec_items new.fragments) (vec_items new.counts.changes) new.counts.finished c.read_fragment.new.crc.register (vec_len new.counts.changes)
-          c.in_ok-used.field-0 c.in-Some.is r (c.in_ok-used.ensures.read (2047 - c.loop-read.-read) w.to w.holds);
+          c.in_ok-used.field-0 c.in-Some.is r (c.in_ok-used.ensures.read (2047 - c.loop-read._read) w.to w.holds);
       room = s.room ∙ c.loop-read.invariant.1;
       lists = s.lists ∙ c.loop-read.invariant.2;
       queue = s.queue ∙ c.loop-read.invariant.3;
@@ -62,11 +62,11 @@ loop-read-preserved g c =
     let new = c.read_fragment.new.room in
     let w = c.loop-read.invariant.0 in
     let s = c.read_fragment.ensures in
-    let l : c.loop-read.-read < 2048 = omega arith in (
-      more_at b c.args.header.now c.loop-read.-read (vec_items d.fragments) c.loop-read.field c.loop-read.fragment (vec_items d.counts.changes) d.counts.finished
+    let l : c.loop-read._read < 2048 = omega arith in (
+      more_at b c.args.header.now c.loop-read._read (vec_items d.fragments) c.loop-read.field c.loop-read.fragment (vec_items d.counts.changes) d.counts.finished
           c.loop-read.crc.register (vec_len d.counts.changes) w l d.counts.room
           (vec_items new.fragments) (vec_items new.counts.changes) new.counts.finished c.read_fragment.new.crc.register (vec_len new.counts.changes)
-          c.in_ok-used.field-0 c.in_default.is (c.in_ok-used.ensures.read (2047 - c.loop-read.-read) w.to w.holds)
+          c.in_ok-used.field-0 c.in_default.is (c.in_ok-used.ensures.read (2047 - c.loop-read._read) w.to w.holds)
           c.next_field-field.result c.next_field-field.ensures c.span_at-fragment.result c.span_at-fragment.ensures,
       s.room ∙ c.loop-read.invariant.1,
       s.lists ∙ c.loop-read.invariant.2,
@@ -77,11 +77,11 @@ pub returns : goal.returns
 returns g c =
     let b = g.S.Store.bytes c.args.store.now in
     let d = c.loop-read.room in
-    let l : 2048 ≤ c.loop-read.-read = omega arith in
+    let l : 2048 ≤ c.loop-read._read = omega arith in
     let r : vec_len c.loop-read.room.counts.changes ≤ c.args.room.now.counts.room = omega (arith, c.loop-read.room.counts.held.0, c.loop-read.invariant.1) in
     record {
       log =
-          walking_all b c.args.header.now c.loop-read.-read (vec_items d.fragments) c.loop-read.field c.loop-read.fragment (vec_items d.counts.changes) d.counts.finished
+          walking_all b c.args.header.now c.loop-read._read (vec_items d.fragments) c.loop-read.field c.loop-read.fragment (vec_items d.counts.changes) d.counts.finished
           c.loop-read.crc.register (vec_len d.counts.changes) c.loop-read.invariant.0 l c.args.room.now.counts.room r c.past_last.result c.past_last.ensures;
       room = c.loop-read.invariant.1;
       lists = c.loop-read.invariant.2;

@@ -5,7 +5,7 @@ use Rattle.log_pass.proofs.read_fragments.Given as goal
 
 abbrev pub invariant-loop-read : goal.invariant-loop-read
 invariant-loop-read g l =
-    Walking (g.S.Store.bytes l.store) l.header l.-read (vec_items l.room.fragments) l.field l.fragment (vec_items l.room.counts.changes) l.room.counts.finished l.crc.register (vec_len l.room.counts.changes)
+    Walking (g.S.Store.bytes l.store) l.header l._read (vec_items l.room.fragments) l.field l.fragment (vec_items l.room.counts.changes) l.room.counts.finished l.crc.register (vec_len l.room.counts.changes)
     × (l.room.counts.room ≡ l.initial.room.counts.room)
     × (l.room.lists ≡ l.initial.room.lists)
     × (l.room.queue ≡ l.initial.room.queue)

@@ -8,7 +8,7 @@ use Rattle.section.proofs.opening.read_file.Goals as goal
 
 pub returns-in_err-checked : goal.returns-in_err-checked
 returns-in_err-checked g c = record {
-  file = reads_err _ _ _ _ c.from-residual.result (opening.Header c.in_err-checked.field-0.0) c.from-residual.ensures.1
+  file = reads_err _ _ _ _ c.from_residual.result (opening.Header c.in_err-checked.field-0.0) c.from_residual.ensures.1
       (header_refused _ _ _ (header_told c.in_err-checked.field-0.0) c.in_err-checked.ensures);
   room = refl;
 }
@@ -17,7 +17,7 @@ pub returns-in_err-used : goal.returns-in_err-used
 returns-in_err-used g c =
     let right : Right _ _ _ = record { passes = c.in_ok-checked.ensures.0; is = c.in_ok-checked.ensures.1 } in
     record {
-      file = reads_err _ _ _ c.read_log.new.room c.from-residual-in_err-used.result (opening.Log c.in_err-used.field-0.0) c.from-residual-in_err-used.ensures.1
+      file = reads_err _ _ _ c.read_log.new.room c.from_residual-in_err-used.result (opening.Log c.in_err-used.field-0.0) c.from_residual-in_err-used.ensures.1
           (log_refused _ _ _ right c.in_err-used.field-0.0 c.in_err-used.ensures.log);
       room = c.read_log.ensures.room;
     }

@@ -9,4 +9,10 @@ invariant_of-self-2 c =
     let w = c.insert.ensures in
     let t = c.if-not-insert.false in
     let a = c.push_reserved.ensures in
-    (omega arith, (omega arith, (omega arith, (alike_more _ _ _ _ c.args.fragment d.tied (w.added t) a.items, (omega (arith, w.len t), tt)))))
+    record {
+      fragments_room = omega arith;
+      lists_room = omega arith;
+      queue_room = omega arith;
+      tied = alike_more _ _ _ _ c.args.fragment d.tied (w.added t) a.items;
+      paired = omega (arith, w.len t);
+    }
