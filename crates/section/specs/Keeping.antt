@@ -5,20 +5,18 @@ use Rattle.model.specs.Section.{Section, fragments_of}
 use Rattle.model.specs.Opened.{opened}
 use Rattle.counts.specs.Noted.{numbered}
 use Rattle.tables.specs.declared.room.Room.{Room}
-use Rattle.pieces.specs.Indexed.{Indexed}
 use Rattle.section.specs.declared.access.Access.{Access}
 
--- header and log's end, the log's counts, how many fragments and lists there are, and where each list's nodes stand
-pub record Keeps (b : List ℕ) (s : Section) (room : Room) (a : Access) : Type 0 where
+-- header and log's end, the log's counts, and how many fragments and lists there are
+pub record Keeps (s : Section) (room : Room) (a : Access) : Type 0 where
   pub header : a.header ≡ s.header
   pub used : a.used ≡ s.log.used
   pub changes : vec_items room.counts.changes ≡ numbered 1 s.log.transactions
   pub finished : room.counts.finished ≡ length s.log.transactions
   pub fragments : length (vec_items room.fragments) ≡ length (fragments_of s)
   pub lists : length (vec_items room.lists) ≡ length s.lists
-  pub pieces : Indexed b s.lists (vec_items room.pieces.rows)
 
 -- a shut file keeps nothing; an opened one keeps what opening finds in its bytes
 abbrev pub Sound : List ℕ → Room → Option Access → Type 0
 Sound b room None = Unit {0}
-Sound b room (Some a) = (s : Section) × (opened b ≡ done s) × Keeps b s room a
+Sound b room (Some a) = (s : Section) × (opened b ≡ done s) × Keeps s room a

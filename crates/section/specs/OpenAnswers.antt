@@ -52,7 +52,7 @@ pub record ReadsAs (mark : ℕ) (b : List ℕ) (capacity : ℕ) (room : Room) (a
   pub section : Section
   pub opens : opened_in capacity b ≡ done section
   pub fits : opened b ≡ done section
-  pub keeps : Keeps b section room a
+  pub keeps : Keeps section room a
   pub marked : a.mark ≡ mark
   pub filed : Filed section.log section.lists (vec_items room.lists) (vec_items room.fragments)
 
