@@ -3,10 +3,10 @@
 
 use lines::listed;
 use section::files::File;
-use section::room::Room;
 use std::fs;
 use store::base::Store;
 use store::flat_store::Flat;
+use tables::room::Room;
 
 // The samples are numbered from 0 on.
 const SAMPLES: u32 = 68;

@@ -5,10 +5,11 @@ pub mod words;
 
 use column::column;
 use model::types::Fault;
-use section::files::{Figures, File};
-use section::room::Row;
+use section::access::Figures;
+use section::files::File;
 use std::alloc::{AllocError, Global};
 use store::base::Store;
+use tables::room::Row;
 
 /// Opens a file and lists it: its figures, then each list's ID, nodes and fragments; or, refused, the one line that tells why.
 pub fn listed<S: Store>(heap: Global, file: &mut File<S>, mark: u64) -> Result<String, AllocError> {
@@ -64,8 +65,8 @@ fn push_number(out: &mut String, n: u64) -> Result<(), AllocError> {
         Some(bytes) => push_bytes(out, &bytes),
         None => {
             out.push(' ')?;
-            let heap = out.allocator();
-            out.push_str(n.to_string(heap)?.as_str())
+            let digits = n.to_string(*out.allocator())?;
+            out.push_str(digits.as_str())
         }
     }
 }

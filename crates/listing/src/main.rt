@@ -4,10 +4,10 @@
 use anyhow::anyhow;
 use lines::listed;
 use section::files::File;
-use section::room::Room;
 use std::io::Read;
 use store::base::Store;
 use store::flat_store::Flat;
+use tables::room::Room;
 
 // No more of the input is read.
 const MOST: usize = 65_536;

@@ -9,9 +9,9 @@ use lines::words::word;
 use model::types::Fault;
 use sample::{END, lay_out};
 use section::files::File;
-use section::room::Room;
 use store::base::{SavingStore, Store, StoreFault};
 use store::flat_store::Flat;
+use tables::room::Room;
 
 mod sample;
 
@@ -44,7 +44,7 @@ fn covered(rt: &HostRuntime) -> anyhow::Result<Cover<Card>> {
 }
 
 fn words_of(fault: StoreFault) -> anyhow::Error {
-    word(fault.told().number).into()
+    anyhow!(word(fault.told().number))
 }
 
 // The first bytes of a store.
