@@ -1,8 +1,8 @@
 -- A scheme whose lowest bit falls out first: a byte's part by a table, and the rest of the register moves down.
-use Rattle.std.proofs.Common.{◌≡◌, ℕ, zero, suc, ◌+◌, ◌*◌, ◌/◌, ◌%◌, ◌^◌, ◌<◌, ◌≤◌, List, [], ◌∷◌, length, sym, refl, ap, ◌∙◌, arith}
+use Rattle.std.proofs.Common.{◌≡◌, ℕ, zero, suc, ◌+◌, ◌*◌, ◌/◌, ◌%◌, ◌^◌, ◌<◌, List, ◌∷◌, length, sym, ap, ◌∙◌, arith}
 use lib.Bits.{bit_xor, xor_shr, xor_mod, xor_comm, xor_zero_r, shifted_half, shifted_even, xor_shifted}
 use Rattle.std.proofs.lemmas.Nat.{div-add-mod'}
-use Rattle.model.specs.Crc.{Scheme, stepped, steps, fed, run}
+use Rattle.model.specs.Crc.{Scheme, steps, fed, run}
 use Rattle.crc.proofs.Linear.{Lawful, steps_xor, steps_steps, run_xor}
 
 -- any polynomial, first register and last addition

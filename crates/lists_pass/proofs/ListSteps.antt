@@ -1,11 +1,11 @@
 -- One step of the walk over a list's fragments.
-use Rattle.std.proofs.Common.{◌≡◌, ℕ, suc, ◌+◌, ◌-◌, ◌<◌, true, false, eqb, leb, List, [], ◌∷◌, ◌++◌, length, Some, None, refl, ap, ◌∙◌, inl, inr, arith}
+use Rattle.std.proofs.Common.{◌≡◌, ℕ, suc, ◌+◌, ◌-◌, ◌<◌, true, false, eqb, leb, List, [], ◌∷◌, ◌++◌, length, Some, None, ap, ◌∙◌, inl, inr, arith}
 use Rattle.std.proofs.lemmas.List.{length-append}
-use Rattle.std.proofs.lemmas.Bool.{cases_lt, cases_Bool}
+use Rattle.std.proofs.lemmas.Bool.{cases_lt}
 use Rattle.std.proofs.lemmas.Bool.Decides.{nat_tests}
 use Rattle.model.specs.declared.types.Span.{Span}
 use Rattle.model.specs.declared.types.Fault.{Fault}
-use Rattle.model.specs.Faults.{Outcome, done, refused, Check, unless}
+use Rattle.model.specs.Faults.{done, refused}
 use Rattle.model.specs.References.{span_at}
 use Rattle.model.specs.Nodes.{Node}
 use Rattle.model.specs.ListFragments.{nodes_from, nodes_to}
@@ -13,7 +13,6 @@ use Rattle.model.specs.Section.{NodeList}
 use Rattle.model.specs.OpenedLists.{counted, uncounted, nodes_at, list_from}
 use Rattle.refusals.specs.Checked.{told_by}
 use Rattle.lists_pass.specs.FragmentChecks.{place_checks, label_checks}
-use Rattle.refusals.proofs.Told.{unless_told, unless_none}
 use Rattle.lists_pass.specs.Listings.{rest_of}
 
 -- a node of the fragment is wrong, the count is reached in it, or the list goes on

@@ -8,7 +8,7 @@ use Rattle.model.specs.declared.types.Header.{Header}
 use Rattle.model.specs.Bytes.{piece, same_row}
 use Rattle.model.specs.Faults.{Outcome, done, refused, then}
 use Rattle.model.specs.References.{end_of}
-use Rattle.model.specs.Headers.{header_span, most, file_type, file_format, header_at}
+use Rattle.model.specs.Headers.{header_span, file_type, file_format, header_at}
 use Rattle.model.specs.Section.{Log, NodeList, Section, list_fragments, first_of}
 use Rattle.model.specs.OpenedLog.{log_from, reading}
 use Rattle.model.specs.OpenedLists.{Named, named_first, lists_from}

@@ -4,12 +4,11 @@ use Rattle.model.specs.declared.types.Span.{Span}
 use Rattle.model.specs.declared.types.Entry.{Entry}
 use Rattle.model.specs.declared.types.Header.{Header}
 use Rattle.model.specs.Faults.{refused}
-use Rattle.model.specs.Section.{Log, Section, fragments_of}
+use Rattle.model.specs.Section.{Log}
 use Rattle.model.specs.OpenedLists.{named_first, lists_from}
 use Rattle.model.specs.Opened.{all_data}
 use Rattle.model.specs.Breaks.{Walked}
 use Rattle.counts.specs.declared.changes.Change.{Change}
-use Rattle.counts.specs.Noted.{numbered}
 use Rattle.refusals.specs.declared.faults.InList.{InList}
 use Rattle.refusals.specs.declared.faults.OpenFault.{OpenFault}
 use Rattle.refusals.specs.Refusals.{list_told, told}
@@ -20,7 +19,6 @@ use Rattle.log_pass.specs.Logs.{LogRead}
 use Rattle.lists_pass.specs.Opening.{Holds, AllRead}
 use Rattle.data_pass.specs.Files.{Filed}
 use Rattle.section.specs.declared.access.Access.{Access}
-use Rattle.section.specs.Keeping.{Keeps}
 use Rattle.section.specs.OpenAnswers.{opened_in, ReadsAs, ReadsFile}
 use Rattle.section.proofs.Joined.{Right, Logged, holds_log, lists_refused, walked_of, data_refused, all_read, in_room}
 use Rattle.section.proofs.Opens.{rows_number}

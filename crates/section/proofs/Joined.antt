@@ -1,15 +1,14 @@
 -- The parts of opening, joined: what header, log, lists and data references answer is what opening answers.
-use Rattle.std.proofs.Common.{◌≡◌, ℕ, ◌<◌, ◌≤◌, true, false, cond, ltb, List, [], ◌∷◌, ◌++◌, length, get_or, Some, None, Ok, Err, Result, sym, refl, ap, ◌∙◌, subst, inl, inr, arith}
+use Rattle.std.proofs.Common.{◌≡◌, ℕ, ◌<◌, ◌≤◌, true, false, ltb, List, [], ◌∷◌, length, get_or, Some, None, sym, refl, ap, ◌∙◌, subst, inl, inr, arith}
 use Rattle.std.proofs.lemmas.Bool.{cases_Bool}
 use Rattle.std.proofs.lemmas.Bool.Decides.{nat_tests}
 use Rattle.model.specs.declared.types.Span.{Span}
 use Rattle.model.specs.declared.types.Entry.{Entry}
 use Rattle.model.specs.declared.types.Header.{Header}
 use Rattle.model.specs.declared.types.Fault.{Fault}
-use Rattle.model.specs.Faults.{fault, Outcome, done, refused, Check, unless, then}
+use Rattle.model.specs.Faults.{fault, Outcome, done, refused, Check, then}
 use Rattle.model.specs.Headers.{header_at}
-use Rattle.model.specs.Section.{Log, NodeList, Section, flat, count_in, latest, fragments_of}
-use Rattle.model.specs.OpenedLog.{reading, log_from}
+use Rattle.model.specs.Section.{Log, NodeList, latest}
 use Rattle.model.specs.OpenedLists.{named_first, lists_from}
 use Rattle.model.specs.Opened.{header_checks, all_data, last_part, part_lists, part_log, opened}
 use Rattle.model.specs.Means.{Logs, Headed}
@@ -27,8 +26,8 @@ use Rattle.refusals.specs.Refusals.{log_told}
 use Rattle.refusals.specs.Checked.{told_by}
 use Rattle.refusals.proofs.Told.{unless_told, unless_none}
 use Rattle.tables.specs.declared.room.Row.{Row}
-use Rattle.log_pass.specs.Logs.{whole_log, all_counts, Refuses, LogRead}
-use Rattle.lists_pass.specs.Opening.{Holds, AllRead}
+use Rattle.log_pass.specs.Logs.{whole_log, all_counts, Refuses}
+use Rattle.lists_pass.specs.Opening.{Holds}
 use Rattle.section.specs.OpenAnswers.{within_room, opened_in}
 
 -- checks that tell nothing are all passed

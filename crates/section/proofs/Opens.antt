@@ -1,21 +1,18 @@
 -- What open answers, from what was read.
-use Rattle.std.proofs.Common.{◌≡◌, ℕ, ◌+◌, ◌*◌, ◌/◌, ◌^◌, ◌<◌, ◌≤◌, false, List, [], ◌∷◌, ◌++◌, map, length, is_some, Some, None, vec_items, Option, sym, refl, ap, ◌∙◌, subst, add-mul, mul-le-mul, arith}
+use Rattle.std.proofs.Common.{◌≡◌, ℕ, ◌+◌, ◌*◌, ◌^◌, ◌<◌, ◌≤◌, false, List, [], ◌∷◌, ◌++◌, length, is_some, Some, None, vec_items, Option, sym, refl, ap, ◌∙◌, subst, add-mul, mul-le-mul, arith}
 use Rattle.std.specs.List.{AllByRecursion as All}
 use Rattle.std.proofs.lemmas.List.{length-append}
 use Rattle.model.specs.declared.types.Span.{Span}
 use Rattle.model.specs.declared.types.Header.{Header}
-use Rattle.model.specs.Faults.{Outcome, done, refused, then}
+use Rattle.model.specs.Faults.{done, then}
 use Rattle.model.specs.Section.{Log, NodeList, Section, list_fragments, fragments_of}
-use Rattle.model.specs.Opened.{opened}
 use Rattle.model.specs.Means.{Stands, Means}
 use Rattle.meaning.proofs.OpensMeans.{opens_means}
 use Rattle.tables.specs.declared.room.Room.{Room}
-use Rattle.tables.specs.declared.room.Row.{Row}
-use Rattle.tables.specs.Rows.{row_of, rows_of}
+use Rattle.tables.specs.Rows.{rows_of}
 use Rattle.section.specs.declared.access.Access.{Access}
 use Rattle.section.specs.declared.access.Figures.{Figures}
-use Rattle.section.specs.Figures.{sizes, percent_of, figures, figures_of}
-use Rattle.section.specs.Keeping.{Keeps, Sound}
+use Rattle.section.specs.Figures.{sizes, percent_of, figures_of}
 use Rattle.section.specs.OpenAnswers.{opened_in, open_answer, Marks, ListsRows, ReadsAs}
 use Rattle.section.proofs.Sizes.{sizes_inside}
 

@@ -1,5 +1,5 @@
 -- What the tables of an opened file keep of what it holds.
-use Rattle.std.specs.Prelude.{◌≡◌, ℕ, List, length, Some, None, vec_items, vec_len, Option}
+use Rattle.std.specs.Prelude.{◌≡◌, ℕ, List, length, Some, None, vec_items, Option}
 use Rattle.model.specs.Faults.{done}
 use Rattle.model.specs.Section.{Section, fragments_of}
 use Rattle.model.specs.Opened.{opened}

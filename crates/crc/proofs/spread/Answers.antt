@@ -1,5 +1,5 @@
 -- An entry of the tables is what their rule says.
-use Rattle.std.proofs.Common.{ℕ, ◌+◌, ◌*◌, ◌%◌, ◌<◌, ap, ◌∙◌, arith}
+use Rattle.std.proofs.Common.{ℕ, ◌+◌, ◌*◌, ◌<◌, ap, ◌∙◌, arith}
 use lib.Bits.{bit_xor, bit_and, and_mask, xor_lt}
 use Rattle.model.specs.Crc.{steps, crc_32}
 use Rattle.crc.proofs.Table.{entry}

@@ -1,4 +1,4 @@
-use Rattle.std.proofs.Common.{refl, arith}
+use Rattle.std.proofs.Common.{arith}
 use Rattle.format.proofs.Fetched.{piece_window}
 use Rattle.format.proofs.headers.header_at.Goals as goal
 

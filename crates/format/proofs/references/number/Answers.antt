@@ -1,4 +1,4 @@
-use Rattle.std.proofs.Common.{◌≡◌, ◌+◌, ◌-◌, ◌*◌, ◌^◌, ◌<◌, get_or, sym, ap, ◌∙◌, arith}
+use Rattle.std.proofs.Common.{◌≡◌, ◌+◌, ◌-◌, ◌*◌, get_or, ◌∙◌, arith}
 use Rattle.model.specs.Bytes.{le}
 use Rattle.format.proofs.Numbers.{le_none, le_more, le_room, le_lt, pow_none, four_bytes, at_start}
 use Rattle.format.proofs.references.number.Goals as goal

@@ -1,4 +1,4 @@
-use Rattle.std.proofs.Common.{◌≡◌, ap, ◌∙◌, ap₂, add-zero, arith}
+use Rattle.std.proofs.Common.{ap, ◌∙◌, ap₂, add-zero, arith}
 use Rattle.model.specs.Bytes.{le}
 use Rattle.model.specs.References.{span}
 use Rattle.format.proofs.Fetched.{le_window}
