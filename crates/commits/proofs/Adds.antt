@@ -1,6 +1,6 @@
 -- One add: the lists after it.
 use Rattle.std.proofs.Common.{◌≡◌, ℕ, ◌+◌, ◌-◌, ◌%◌, ◌^◌, ◌<◌, ◌≤◌, true, cond, ◌&&◌, eqb, ◌≢◌, List, [], ◌∷◌, ◌++◌, map, length, replicate, Some, None, sym, refl, ap, ◌∙◌, subst, inl, inr, arith}
-use Rattle.std.specs.List.{AllByRecursion as All}
+use Rattle.std.specs.List.{AllByRecursion}
 use Rattle.std.proofs.lemmas.List.{append_assoc, append-nil, length-append, length-replicate, map-append}
 use Rattle.std.proofs.lemmas.Bool.{cases_Bool}
 use Rattle.std.proofs.ByRecursion.{All-append, All-weaker}
@@ -48,7 +48,7 @@ pub record Drafted (c : List ℕ) (s : Section) (y : Layout) (ls : List NodeList
   pub counting : Counting s y.touched y.highest ls
 
 -- the header and the log in a row that has their bytes
-carried : (c c' : List ℕ) (s : Section) → All (Kept c c') (header_span ∷ s.log.fragments) → s.header.end ≤ length c' → Headed c s.header × Logs c s.header s.log
+carried : (c c' : List ℕ) (s : Section) → AllByRecursion (Kept c c') (header_span ∷ s.log.fragments) → s.header.end ≤ length c' → Headed c s.header × Logs c s.header s.log
     → Headed c' s.header × Logs c' s.header s.log
 carried c c' s (k, ks) l (h, g) = (headed_same c c' s.header k l h, logs_same c c' s.header s.log ks g)
 
@@ -59,7 +59,7 @@ pub record Fine (y : Layout) : Type 0 where
   pub fragments : y.fragments ≤ 2048
   pub lists : y.lists ≤ 1024
   pub touched : length y.touched ≤ 16
-  pub counts : All (λ t. t.count < 2 ^ 32) y.tails
+  pub counts : AllByRecursion (λ t. t.count < 2 ^ 32) y.tails
 
 -- names ----------------------------------------------------------------------------------------------------------------
 
@@ -155,7 +155,7 @@ data_step c s y ls list id payload content d f i k o z m =
     let b1 : Body (written c E P) (up_to s.header e) gs ls = body_longer c h e gs ls P d.laid.body refl in
     let la = d.later in
     let wh = b1.whole in
-    let kp : All (Kept c (written c E P)) (header_span ∷ gs) = past_kept c E P (header_span ∷ gs) d.laid.body.whole (d.laid.body.least, d.laid.body.log_inside) in
+    let kp : AllByRecursion (Kept c (written c E P)) (header_span ∷ gs) = past_kept c E P (header_span ∷ gs) d.laid.body.whole (d.laid.body.least, d.laid.body.log_inside) in
     let (hd, lg) = carried c (written c E P) s kp (omega arith) (d.head, d.logs) in
     let d1 : Drafted (written c E P) s y1 ls = record {
       later = omega arith;
@@ -165,7 +165,7 @@ data_step c s y ls list id payload content d f i k o z m =
       laid = record { body = b1; tails = d.laid.tails; lists = d.laid.lists; fragments = d.laid.fragments; known = d.laid.known };
       tied = tied_header h (up_to s.header e) ls refl d.tied;
     } in
-    let far : All (Apart r) (header_span ∷ (gs ++ list_fragments ls))
+    let far : AllByRecursion (Apart r) (header_span ∷ (gs ++ list_fragments ls))
     = All-weaker (λ x. end_of x ≤ E) (Apart r) (λ x u i v w. past_apart E r x (omega arith) u i w v) (header_span ∷ (gs ++ list_fragments ls)) (all_by_end c h gs ls d.laid.body) in
     let fit : DataFits e (gs ++ list_fragments ls) r = (omega arith, far) in
     let st : piece (written c E P) E (length content) ≡ content = piece_stored (written c E P) E content (stored_front (written c E P) E content pad (stored_written c E P d.laid.body.whole)) in
@@ -181,7 +181,7 @@ data_step c s y ls list id payload content d f i k o z m =
       },
     )
   where
-    one_fits : (Q : Span → Type 0) (n : Node) → Q n.reference → All Q (references (n ∷ []))
+    one_fits : (Q : Span → Type 0) (n : Node) → Q n.reference → AllByRecursion Q (references (n ∷ []))
     one_fits Q n q = elim (cases_Bool (eqb n.base 1 && present n.reference)) [
       | inl e ↦ rw e (q, tt)
       | inr e ↦ rw e tt
@@ -309,7 +309,7 @@ branch_step c s y ls list id payload first_id first d f i k j l0 v m =
         let la = d.later in
         let w1 = d2.body.whole in
         let wh = p.laid.body.whole in
-        let kp : All (Kept c c1) (header_span ∷ s.log.fragments) = past_kept c E (nf ++ pad) (header_span ∷ s.log.fragments) d0.body.whole (d0.body.least, d0.body.log_inside) in
+        let kp : AllByRecursion (Kept c c1) (header_span ∷ s.log.fragments) = past_kept c E (nf ++ pad) (header_span ∷ s.log.fragments) d0.body.whole (d0.body.least, d0.body.log_inside) in
         let hl : Headed c1 s.header × Logs c1 s.header s.log = carried c c1 s kp (omega arith) (d.head, d.logs) in
         let hl2 : Headed (applied c1 (with_node (y1 l.id) l.id new).writes) s.header × Logs (applied c1 (with_node (y1 l.id) l.id new).writes) s.header s.log
         = carried c1 (applied c1 (with_node (y1 l.id) l.id new).writes) s p.kept (omega arith) hl in
@@ -317,7 +317,7 @@ branch_step c s y ls list id payload first_id first d f i k j l0 v m =
         let T : List ℕ = touch l.id y.touched in
         let ct : Counting s T y.highest (pre ++ (p.list ∷ post)) = counting_push s y.touched y.highest pre l p.list post d0.body.ids_differ p.same
         (ap length p.nodes ∙ length-append l.nodes (n ∷ [])) (subst (λ z. Counting s y.touched y.highest z) e d.counting) in
-        let kn : All (λ m. m.id ≤ y.highest) (pre ++ (p.list ∷ post)) = All-append (λ m. m.id ≤ y.highest) pre (p.list ∷ post) u0 (subst (λ z. z ≤ y.highest) (sym p.same) top, u1.1) in
+        let kn : AllByRecursion (λ m. m.id ≤ y.highest) (pre ++ (p.list ∷ post)) = All-append (λ m. m.id ≤ y.highest) pre (p.list ∷ post) u0 (subst (λ z. z ≤ y.highest) (sym p.same) top, u1.1) in
         let ct2 : Counting s (touch (y.highest + 1) T) (y.highest + 1) ms
         = subst (λ z. Counting s (touch (y.highest + 1) T) (y.highest + 1) z) (append_assoc pre (p.list ∷ post) (l2 ∷ [])) (counting_list s T y.highest (pre ++ (p.list ∷ post)) l2 kn refl refl ct) in
         let tq : (with_node (y1 l.id) l.id new).layout.touched ≡ touch (y.highest + 1) T

@@ -1,7 +1,7 @@
 -- Writes in one fragment and behind the end: what stays of a row.
 use Rattle.std.proofs.Common.{ℕ, ◌+◌, ◌≤◌, List, length, sym, refl, ◌∙◌, inl, inr, arith}
 use Rattle.std.proofs.lemmas.Bool.{cases_lt}
-use Rattle.std.specs.List.{AllByRecursion as All}
+use Rattle.std.specs.List.{AllByRecursion}
 use Rattle.std.proofs.ByRecursion.{All-weaker}
 use Rattle.model.specs.declared.types.Span.{Span}
 use Rattle.model.specs.Bytes.{written, Same}
@@ -52,5 +52,5 @@ other_same b c end g lo front back o f a h i l k = elim (cases_lt i lo) [
 ]
 
 -- what ends before a write
-pub past_kept : (b : List ℕ) (p : ℕ) (new : List ℕ) (fs : List Span) → p ≤ length b → All (λ f. end_of f ≤ p) fs → All (Kept b (written b p new)) fs
+pub past_kept : (b : List ℕ) (p : ℕ) (new : List ℕ) (fs : List Span) → p ≤ length b → AllByRecursion (λ f. end_of f ≤ p) fs → AllByRecursion (Kept b (written b p new)) fs
 past_kept b p new fs h a = All-weaker (λ f. end_of f ≤ p) (Kept b (written b p new)) (λ f x. same_written b p new f.start (end_of f) h (inl x)) fs a

@@ -1,6 +1,6 @@
 -- One node more in one of a file's lists.
 use Rattle.std.proofs.Common.{◌≡◌, ℕ, ◌+◌, ◌^◌, ◌<◌, ◌≤◌, ◌&&◌, eqb, ◌≢◌, List, [], ◌∷◌, ◌++◌, map, length, sym, refl, ap, ◌∙◌, subst, inl, inr, arith}
-use Rattle.std.specs.List.{AllByRecursion as All}
+use Rattle.std.specs.List.{AllByRecursion}
 use Rattle.std.proofs.lemmas.List.{append_assoc, map-append}
 use Rattle.std.proofs.lemmas.Bool.{cases_Bool}
 use Rattle.std.proofs.ByRecursion.{All-append, All-weaker}
@@ -44,15 +44,15 @@ body_means b s m = (
 -- one list among the others ---------------------------------------------------------------------------------------------
 
 -- what holds of each fragment of a list holds of its last
-spread_last : (b : List ℕ) (P : Span → Type 0) (d : Span) {fs : List Span} {ns : List Node} {q : ℕ} → Spread b fs ns q → All P fs → P (last_of d fs)
+spread_last : (b : List ℕ) (P : Span → Type 0) (d : Span) {fs : List Span} {ns : List Node} {q : ℕ} → Spread b fs ns q → AllByRecursion P fs → P (last_of d fs)
 spread_last b P d (within h) a = a.0
 spread_last b P d (across {f = f} ns ms p h o e t u) a = spread_last b P f t a.1
 
 -- the list's fragments are apart from each other, and its last from those of the others
 own : (b : List ℕ) (h : Header) (gs : List Span) (pre : List NodeList) (l : NodeList) (post : List NodeList) → Right b h l
     → Pairwise Apart (header_span ∷ (gs ++ list_fragments (pre ++ (l ∷ post))))
-    → Pairwise Apart l.fragments × All (λ m. All (Apart (last_fragment l.fragments)) m.fragments) pre × All (λ m. All (Apart (last_fragment l.fragments)) m.fragments) post
-    × All (Apart (last_fragment l.fragments)) (header_span ∷ gs) × ((x : Span) → All (Apart x) (list_fragments (pre ++ (l ∷ post))) → Apart (last_fragment l.fragments) x)
+    → Pairwise Apart l.fragments × AllByRecursion (λ m. AllByRecursion (Apart (last_fragment l.fragments)) m.fragments) pre × AllByRecursion (λ m. AllByRecursion (Apart (last_fragment l.fragments)) m.fragments) post
+    × AllByRecursion (Apart (last_fragment l.fragments)) (header_span ∷ gs) × ((x : Span) → AllByRecursion (Apart x) (list_fragments (pre ++ (l ∷ post))) → Apart (last_fragment l.fragments) x)
 own b h gs pre l post r (p0, p) =
     let A = list_fragments pre in
     let B = list_fragments post in
@@ -62,23 +62,23 @@ own b h gs pre l post r (p0, p) =
     let p2 : Pairwise Apart (A ++ (fs ++ B)) = subst (λ z. Pairwise Apart z) (flat_append (λ (m : NodeList). m.fragments) pre (l ∷ post)) p1 in
     let (x2, p3, a1) = pairs_split Apart A (fs ++ B) p2 in
     let (p4, x3, a2) = pairs_split Apart fs B p3 in
-    let k1 : All (Apart g) A = All-weaker (λ x. All (Apart x) (fs ++ B)) (Apart g) (λ x u. apart_back x g (spread_last b (Apart x) (span 0 0) r.part.spread (all_front (Apart x) fs B u).0)) A a1 in
-    let k2 : All (Apart g) B = spread_last b (λ x. All (Apart x) B) (span 0 0) r.part.spread a2 in
+    let k1 : AllByRecursion (Apart g) A = All-weaker (λ x. AllByRecursion (Apart x) (fs ++ B)) (Apart g) (λ x u. apart_back x g (spread_last b (Apart x) (span 0 0) r.part.spread (all_front (Apart x) fs B u).0)) A a1 in
+    let k2 : AllByRecursion (Apart g) B = spread_last b (λ x. AllByRecursion (Apart x) B) (span 0 0) r.part.spread a2 in
     let L : List Span = list_fragments (pre ++ (l ∷ post)) in
-    let from : (x : Span) → All (Apart x) L → Apart g x = λ x u.
-    let v : All (Apart x) (A ++ (fs ++ B)) = subst (λ z. All (Apart x) z) (flat_append (λ (m : NodeList). m.fragments) pre (l ∷ post)) u in
+    let from : (x : Span) → AllByRecursion (Apart x) L → Apart g x = λ x u.
+    let v : AllByRecursion (Apart x) (A ++ (fs ++ B)) = subst (λ z. AllByRecursion (Apart x) z) (flat_append (λ (m : NodeList). m.fragments) pre (l ∷ post)) u in
     apart_back x g (spread_last b (Apart x) (span 0 0) r.part.spread (all_front (Apart x) fs B (all_front (Apart x) A (fs ++ B) v).1).0) in (
       p4,
       all_flat (Apart g) (λ (m : NodeList). m.fragments) pre k1,
       all_flat (Apart g) (λ (m : NodeList). m.fragments) post k2,
-      (from header_span (all_front (Apart header_span) gs L p0).1, All-weaker (λ x. All (Apart x) L) (Apart g) from gs x1),
+      (from header_span (all_front (Apart header_span) gs L p0).1, All-weaker (λ x. AllByRecursion (Apart x) L) (Apart g) from gs x1),
       from,
     )
 
 -- the other lists are kept
 others : (b c : List ℕ) (h h' : Header) (g : Span) (lo : ℕ) (ms : List NodeList) → Around b c h.end g lo 16 8 → h.end ≤ h'.end
-    → All (λ m. All (Apart g) m.fragments) ms → All (Right b h) ms → All (Right c h') ms
-others b c h h' g lo ms o k a r = all_both (λ m. All (Apart g) m.fragments) (Right b h) (Right c h') ms
+    → AllByRecursion (λ m. AllByRecursion (Apart g) m.fragments) ms → AllByRecursion (Right b h) ms → AllByRecursion (Right c h') ms
+others b c h h' g lo ms o k a r = all_both (λ m. AllByRecursion (Apart g) m.fragments) (Right b h) (Right c h') ms
     (λ m x y. record { part = part_kept b c h h' g lo m.id m.fragments m.nodes m.free o k (ahead_other g lo m.fragments m.free x) y.part; ends = y.ends }) a r
 
 -- data references --------------------------------------------------------------------------------------------------------
@@ -92,21 +92,21 @@ referring_row base (n ∷ ns) ms = elim (cases_Bool (eqb n.base base && present 
 ]
 
 data_push : (P : Span → Type 0) (pre : List NodeList) (l l' : NodeList) (post : List NodeList) (n : Node) → l'.nodes ≡ l.nodes ++ (n ∷ [])
-    → All P (data_spans (pre ++ (l ∷ post))) → All P (references (n ∷ [])) → All P (data_spans (pre ++ (l' ∷ post)))
+    → AllByRecursion P (data_spans (pre ++ (l ∷ post))) → AllByRecursion P (references (n ∷ [])) → AllByRecursion P (data_spans (pre ++ (l' ∷ post)))
 data_push P pre l l' post n e a c =
-    let (x, y) = all_front (λ m. All P (references m.nodes)) pre (l ∷ post) (all_flat P (λ (m : NodeList). references m.nodes) (pre ++ (l ∷ post)) a) in
+    let (x, y) = all_front (λ m. AllByRecursion P (references m.nodes)) pre (l ∷ post) (all_flat P (λ (m : NodeList). references m.nodes) (pre ++ (l ∷ post)) a) in
     let q : references l'.nodes ≡ references l.nodes ++ references (n ∷ [])
     = ap (λ (z : List Node). references z) e ∙ ap (λ (z : List Node). map (λ m. m.reference) z) (referring_row 1 l.nodes (n ∷ [])) ∙ map-append (λ (m : Node). m.reference) (referring 1 l.nodes) (referring 1 (n ∷ [])) in
-    flat_all P (λ (m : NodeList). references m.nodes) (pre ++ (l' ∷ post)) (All-append (λ m. All P (references m.nodes)) pre (l' ∷ post) x
-    (subst (λ z. All P z) (sym q) (All-append P (references l.nodes) (references (n ∷ [])) y.0 c), y.1))
+    flat_all P (λ (m : NodeList). references m.nodes) (pre ++ (l' ∷ post)) (All-append (λ m. AllByRecursion P (references m.nodes)) pre (l' ∷ post) x
+    (subst (λ z. AllByRecursion P z) (sym q) (All-append P (references l.nodes) (references (n ∷ [])) y.0 c), y.1))
 
 -- it fits ------------------------------------------------------------------------------------------------------------
 
 -- the lists with one node more
 pub body_fits : (b : List ℕ) (h : Header) (gs : List Span) (pre : List NodeList) (l : NodeList) (post : List NodeList) (new : List ℕ) (n : ℕ → Node)
     → Made new n → Body b h gs (pre ++ (l ∷ post)) → l.free + length new ≤ nodes_to (last_fragment l.fragments)
-    → All (DataFits h.end (gs ++ list_fragments (pre ++ (l ∷ post)))) (references (n l.free ∷ []))
-    → Body (written b l.free new) h gs (pre ++ (with_one l (n l.free) (l.free + length new) ∷ post)) × All (Kept b (written b l.free new)) (header_span ∷ gs)
+    → AllByRecursion (DataFits h.end (gs ++ list_fragments (pre ++ (l ∷ post)))) (references (n l.free ∷ []))
+    → Body (written b l.free new) h gs (pre ++ (with_one l (n l.free) (l.free + length new) ∷ post)) × AllByRecursion (Kept b (written b l.free new)) (header_span ∷ gs)
     × ((r : Span) → DataFits h.end (gs ++ list_fragments (pre ++ (l ∷ post))) r → Kept b (written b l.free new) r)
 body_fits b h gs pre l post new n m d k w =
     let c : List ℕ = written b l.free new in
@@ -128,9 +128,9 @@ body_fits b h gs pre l post new n m d k w =
         apart = subst (λ z. Pairwise Apart (header_span ∷ (gs ++ z))) (sym e) d.apart;
         data_inside = data_push (λ r. end_of r ≤ h.end) pre l l' post (n l.free) refl d.data_inside
             (All-weaker (DataFits h.end (gs ++ list_fragments (pre ++ (l ∷ post)))) (λ r. end_of r ≤ h.end) (λ r x. x.0) refs w);
-        data_apart = subst (λ z. All (λ r. All (Apart r) (header_span ∷ (gs ++ z))) (data_spans (pre ++ (l' ∷ post)))) (sym e)
-            (data_push (λ r. All (Apart r) (header_span ∷ (gs ++ list_fragments (pre ++ (l ∷ post))))) pre l l' post (n l.free) refl d.data_apart
-            (All-weaker (DataFits h.end (gs ++ list_fragments (pre ++ (l ∷ post)))) (λ r. All (Apart r) (header_span ∷ (gs ++ list_fragments (pre ++ (l ∷ post))))) (λ r x. x.1) refs w));
+        data_apart = subst (λ z. AllByRecursion (λ r. AllByRecursion (Apart r) (header_span ∷ (gs ++ z))) (data_spans (pre ++ (l' ∷ post)))) (sym e)
+            (data_push (λ r. AllByRecursion (Apart r) (header_span ∷ (gs ++ list_fragments (pre ++ (l ∷ post))))) pre l l' post (n l.free) refl d.data_apart
+            (All-weaker (DataFits h.end (gs ++ list_fragments (pre ++ (l ∷ post)))) (λ r. AllByRecursion (Apart r) (header_span ∷ (gs ++ list_fragments (pre ++ (l ∷ post))))) (λ r x. x.1) refs w));
       },
       all_both (Apart g) (λ f. end_of f ≤ h.end) (Kept b c) (header_span ∷ gs) (λ f u v. other_same b c h.end g l.free 16 8 o f u v) a2 (d.least, d.log_inside),
       λ r x. other_same b c h.end g l.free 16 8 o r (away r (all_front (Apart r) gs (list_fragments (pre ++ (l ∷ post))) x.1.1).1) x.0,
@@ -139,12 +139,12 @@ body_fits b h gs pre l post new n m d k w =
 -- it goes into a new fragment --------------------------------------------------------------------------------------------
 
 -- every fragment ends by the end
-pub all_by_end : (b : List ℕ) (h : Header) (gs : List Span) (ls : List NodeList) → Body b h gs ls → All (λ f. end_of f ≤ h.end) (header_span ∷ (gs ++ list_fragments ls))
+pub all_by_end : (b : List ℕ) (h : Header) (gs : List Span) (ls : List NodeList) → Body b h gs ls → AllByRecursion (λ f. end_of f ≤ h.end) (header_span ∷ (gs ++ list_fragments ls))
 all_by_end b h gs ls d = (
   d.least,
   All-append (λ f. end_of f ≤ h.end) gs (list_fragments ls) d.log_inside
       (flat_all (λ f. end_of f ≤ h.end) (λ (m : NodeList). m.fragments) ls
-      (All-weaker (Right b h) (λ m. All (λ f. end_of f ≤ h.end) m.fragments) (λ m x. All-weaker (Inside 36 h.end) (λ f. end_of f ≤ h.end) (λ f y. y.1) m.fragments x.part.inside) ls d.lists)),
+      (All-weaker (Right b h) (λ m. AllByRecursion (λ f. end_of f ≤ h.end) m.fragments) (λ m x. All-weaker (Inside 36 h.end) (λ f. end_of f ≤ h.end) (λ f y. y.1) m.fragments x.part.inside) ls d.lists)),
 )
 
 -- what stands behind the end is apart from what ends by it
@@ -168,28 +168,28 @@ row_new gs pre l l' post f e = ap (λ z. header_span ∷ z)
 
 -- what holds of each fragment, with one more
 row_all : (P : Span → Type 0) (gs : List Span) (pre : List NodeList) (l l' : NodeList) (post : List NodeList) (f : Span) → l'.fragments ≡ l.fragments ++ (f ∷ [])
-    → P f → All P (header_span ∷ (gs ++ list_fragments (pre ++ (l ∷ post)))) → All P (header_span ∷ (gs ++ list_fragments (pre ++ (l' ∷ post))))
+    → P f → AllByRecursion P (header_span ∷ (gs ++ list_fragments (pre ++ (l ∷ post)))) → AllByRecursion P (header_span ∷ (gs ++ list_fragments (pre ++ (l' ∷ post))))
 row_all P gs pre l l' post f e p a =
     let X : List Span = header_span ∷ (gs ++ (list_fragments pre ++ l.fragments)) in
-    subst (λ z. All P z) (sym (row_new gs pre l l' post f e)) (all_between P X f (list_fragments post) (subst (λ z. All P z) (row_old gs pre l post) a) p)
+    subst (λ z. AllByRecursion P z) (sym (row_new gs pre l l' post f e)) (all_between P X f (list_fragments post) (subst (λ z. AllByRecursion P z) (row_old gs pre l post) a) p)
 
 row_pairs : (gs : List Span) (pre : List NodeList) (l l' : NodeList) (post : List NodeList) (f : Span) → l'.fragments ≡ l.fragments ++ (f ∷ [])
-    → All (λ x. Apart x f) (header_span ∷ (gs ++ list_fragments (pre ++ (l ∷ post))))
+    → AllByRecursion (λ x. Apart x f) (header_span ∷ (gs ++ list_fragments (pre ++ (l ∷ post))))
     → Pairwise Apart (header_span ∷ (gs ++ list_fragments (pre ++ (l ∷ post)))) → Pairwise Apart (header_span ∷ (gs ++ list_fragments (pre ++ (l' ∷ post))))
 row_pairs gs pre l l' post f e a p =
     let X : List Span = header_span ∷ (gs ++ (list_fragments pre ++ l.fragments)) in
     let B : List Span = list_fragments post in
-    let (u, v) = all_front (λ x. Apart x f) X B (subst (λ z. All (λ x. Apart x f) z) (row_old gs pre l post) a) in
+    let (u, v) = all_front (λ x. Apart x f) X B (subst (λ z. AllByRecursion (λ x. Apart x f) z) (row_old gs pre l post) a) in
     subst (λ z. Pairwise Apart z) (sym (row_new gs pre l l' post f e))
     (pair_between Apart X f B (subst (λ z. Pairwise Apart z) (row_old gs pre l post) p) u (All-weaker (λ x. Apart x f) (Apart f) (λ x y. apart_back x f y) B v))
 
 -- the lists with one node more, in a new fragment at the end
 pub body_spill : (b : List ℕ) (h : Header) (e : ℕ) (gs : List Span) (pre : List NodeList) (l : NodeList) (post : List NodeList) (new pad : List ℕ) (n : ℕ → Node)
     → Made new n → Body b h gs (pre ++ (l ∷ post)) → h.end + 1024 + length pad ≡ e → h.end < 2 ^ 64 → l.id < 2 ^ 32 → length l.fragments < 2 ^ 32
-    → All (DataFits h.end (gs ++ list_fragments (pre ++ (l ∷ post)))) (references (n (h.end + 16) ∷ []))
+    → AllByRecursion (DataFits h.end (gs ++ list_fragments (pre ++ (l ∷ post)))) (references (n (h.end + 16) ∷ []))
     → let c = spilt b h.end (new_fragment l.id (length l.fragments) new ++ pad) l.free (nodes_to (last_fragment l.fragments)) in
     Body c (up_to h e) gs (pre ++ (with_fragment l (span h.end 1024) (n (h.end + 16)) (h.end + 16 + length new) ∷ post))
-    × All (Kept b c) (header_span ∷ gs) × ((r : Span) → DataFits h.end (gs ++ list_fragments (pre ++ (l ∷ post))) r → Kept b c r)
+    × AllByRecursion (Kept b c) (header_span ∷ gs) × ((r : Span) → DataFits h.end (gs ++ list_fragments (pre ++ (l ∷ post))) r → Kept b c r)
 body_spill b h e gs pre l post new pad n m d k u i j w =
     let E = h.end in
     let h' : Header = up_to h e in
@@ -202,11 +202,11 @@ body_spill b h e gs pre l post new pad n m d k u i j w =
     let (r0, r1) = all_front (Right b h) pre (l ∷ post) d.lists in
     let (ap, a0, a1, a2, away) = own b h gs pre l post r1.0 d.apart in
     let (o, z, p) = spill_list b h h' l.id l.fragments l.nodes l.free new pad n m d.whole (omega arith) u i j ap r1.0.part in
-    let by_end : All (λ f. end_of f ≤ E) F = all_by_end b h gs (pre ++ (l ∷ post)) d in
+    let by_end : AllByRecursion (λ f. end_of f ≤ E) F = all_by_end b h gs (pre ++ (l ∷ post)) d in
     let q : last_of (span 0 0) (l.fragments ++ (fresh ∷ [])) ≡ fresh = last_push (span 0 0) l.fragments fresh in
-    let lives : All (λ r. (end_of r ≤ E) × All (Apart r) F) (data_spans (pre ++ (l ∷ post)))
-    = all_both (λ r. end_of r ≤ E) (λ r. All (Apart r) F) (λ r. (end_of r ≤ E) × All (Apart r) F) (data_spans (pre ++ (l ∷ post))) (λ r x y. (x, y)) d.data_inside d.data_apart in
-    let grown : All (λ r. (end_of r ≤ E) × All (Apart r) F) (data_spans (pre ++ (l' ∷ post))) = data_push (λ r. (end_of r ≤ E) × All (Apart r) F) pre l l' post (n (E + 16)) refl lives w in (
+    let lives : AllByRecursion (λ r. (end_of r ≤ E) × AllByRecursion (Apart r) F) (data_spans (pre ++ (l ∷ post)))
+    = all_both (λ r. end_of r ≤ E) (λ r. AllByRecursion (Apart r) F) (λ r. (end_of r ≤ E) × AllByRecursion (Apart r) F) (data_spans (pre ++ (l ∷ post))) (λ r x y. (x, y)) d.data_inside d.data_apart in
+    let grown : AllByRecursion (λ r. (end_of r ≤ E) × AllByRecursion (Apart r) F) (data_spans (pre ++ (l' ∷ post))) = data_push (λ r. (end_of r ≤ E) × AllByRecursion (Apart r) F) pre l l' post (n (E + 16)) refl lives w in (
       record {
         whole = omega arith;
         least = omega (arith, d.least);
@@ -215,8 +215,8 @@ body_spill b h e gs pre l post new pad n m d k u i j w =
         ids_differ = pair_instead (λ l m. l.id ≢ m.id) pre l l' post (λ x y. y) (λ x y. y) d.ids_differ;
         log_inside = All-weaker (λ f. end_of f ≤ E) (λ f. end_of f ≤ e) (λ f x. omega arith) gs d.log_inside;
         apart = row_pairs gs pre l l' post fresh refl (All-weaker (λ f. end_of f ≤ E) (λ x. Apart x fresh) (λ x y. past_apart E fresh x (omega arith) y) F by_end) d.apart;
-        data_inside = All-weaker (λ r. (end_of r ≤ E) × All (Apart r) F) (λ r. end_of r ≤ e) (λ r x. omega (arith, x.0)) (data_spans (pre ++ (l' ∷ post))) grown;
-        data_apart = All-weaker (λ r. (end_of r ≤ E) × All (Apart r) F) (λ r. All (Apart r) (header_span ∷ (gs ++ list_fragments (pre ++ (l' ∷ post))))) (λ r x. row_all (Apart r) gs pre l l' post fresh refl (past_apart E fresh r (omega arith) x.0) x.1) (data_spans (pre ++ (l' ∷ post))) grown;
+        data_inside = All-weaker (λ r. (end_of r ≤ E) × AllByRecursion (Apart r) F) (λ r. end_of r ≤ e) (λ r x. omega (arith, x.0)) (data_spans (pre ++ (l' ∷ post))) grown;
+        data_apart = All-weaker (λ r. (end_of r ≤ E) × AllByRecursion (Apart r) F) (λ r. AllByRecursion (Apart r) (header_span ∷ (gs ++ list_fragments (pre ++ (l' ∷ post))))) (λ r x. row_all (Apart r) gs pre l l' post fresh refl (past_apart E fresh r (omega arith) x.0) x.1) (data_spans (pre ++ (l' ∷ post))) grown;
       },
       all_both (Apart g) (λ f. end_of f ≤ E) (Kept b c) (header_span ∷ gs) (λ f u v. other_same b c E g l.free 16 8 o f u v) a2 (d.least, d.log_inside),
       λ r x. other_same b c E g l.free 16 8 o r (away r (all_front (Apart r) gs (list_fragments (pre ++ (l ∷ post))) x.1.1).1) x.0,

@@ -1,6 +1,6 @@
 -- Numbers that are read from bytes fit into their widths: so do the list IDs and the counts of an accepted file.
 use Rattle.std.proofs.Common.{ℕ, zero, suc, ◌+◌, ◌^◌, ◌<◌, cond, eqb, List, [], ◌∷◌, map, length, get_or, sym, ◌∙◌, subst, inl, inr, pow-suc, arith}
-use Rattle.std.specs.List.{AllByRecursion as All}
+use Rattle.std.specs.List.{AllByRecursion}
 use Rattle.std.proofs.lemmas.List.{append-nil}
 use Rattle.std.proofs.lemmas.Bool.{cases_Bool}
 use Rattle.std.proofs.ByRecursion.{All-append, All-weaker}
@@ -31,27 +31,27 @@ le_below (suc n) b p a =
 
 -- the log ----------------------------------------------------------------------------------------------------------------
 
-entries_small : (b : List ℕ) (f : Span) (i n : ℕ) → Bytes b → All Small (entries_of b f i n)
+entries_small : (b : List ℕ) (f : Span) (i n : ℕ) → Bytes b → AllByRecursion Small (entries_of b f i n)
 entries_small b f i zero a = tt
 entries_small b f i (suc n) a = ((le_below 4 b (entry_place f i) a, le_below 4 b (entry_place f i + 4) a), entries_small b f (i + 1) n a)
 
-row_small : (b : List ℕ) (fs : List Span) (used : ℕ) → Bytes b → All Small (log_row b fs used)
+row_small : (b : List ℕ) (fs : List Span) (used : ℕ) → Bytes b → AllByRecursion Small (log_row b fs used)
 row_small b [] used a = tt
 row_small b (f ∷ []) used a = entries_small b f 0 used a
 row_small b (f ∷ (g ∷ gs)) used a = All-append Small (entries_of b f 0 (entries_in f.size)) (log_row b (g ∷ gs) used) (entries_small b f 0 (entries_in f.size) a) (row_small b (g ∷ gs) used a)
 
-opened_small : (ts : List (List Entry)) → All Small (flat (map closed ts)) → All Small (flat ts)
+opened_small : (ts : List (List Entry)) → AllByRecursion Small (flat (map closed ts)) → AllByRecursion Small (flat ts)
 opened_small [] a = tt
 opened_small (t ∷ ts) a =
     let (x, y) = all_front Small (closed t) (flat (map closed ts)) a in
     All-append Small t (flat ts) (all_front Small t (sentinel t ∷ []) x).0 (opened_small ts y)
 
-pub log_small : (b : List ℕ) (h : Header) (l : Log) → Bytes b → Logs b h l → All Small (flat l.transactions)
+pub log_small : (b : List ℕ) (h : Header) (l : Log) → Bytes b → Logs b h l → AllByRecursion Small (flat l.transactions)
 log_small b h l a g =
     let e = g.part.row ∙ append-nil (flat (map closed l.transactions)) in
-    opened_small l.transactions (subst (λ z. All Small z) e (row_small b l.fragments l.used a))
+    opened_small l.transactions (subst (λ z. AllByRecursion Small z) e (row_small b l.fragments l.used a))
 
-latest_small : (id n : ℕ) (es : List Entry) → n < 2 ^ 32 → All Small es → latest id n es < 2 ^ 32
+latest_small : (id n : ℕ) (es : List Entry) → n < 2 ^ 32 → AllByRecursion Small es → latest id n es < 2 ^ 32
 unfolding latest
 latest_small id n [] h a = h
 latest_small id n (e ∷ es) h ((p, q), a) = latest_small id (cond (eqb e.source id) e.number n) es (elim (cases_Bool (eqb e.source id)) [
@@ -65,7 +65,7 @@ spread_first : (b c : List ℕ) (id i : ℕ) {fs : List Span} {ns : List Node} {
 spread_first b c id i a (within {f = f} h) (m, ms) = subst (λ z. z < 2 ^ 32) m.list (le_below 4 c (f.start + 8) a)
 spread_first b c id i a (across {f = f} ns ms p h o e t u) (m, k) = subst (λ z. z < 2 ^ 32) m.list (le_below 4 c (f.start + 8) a)
 
-greatest_below : {A : Type 0} (f : A → ℕ) (xs : List A) → All (λ x. f x < 2 ^ 32) xs → greatest (map f xs) < 2 ^ 32
+greatest_below : {A : Type 0} (f : A → ℕ) (xs : List A) → AllByRecursion (λ x. f x < 2 ^ 32) xs → greatest (map f xs) < 2 ^ 32
 unfolding greatest
 greatest_below f [] a = omega arith
 greatest_below f (x ∷ xs) (p, a) = let r = greatest_below f xs a in omega arith
@@ -78,11 +78,11 @@ blank_highest b s a m =
     let y = greatest_below (λ (l : NodeList). l.id) s.lists (All-weaker (Stands b s.header s.log) (λ l. l.id < 2 ^ 32) (λ l k. spread_first b b l.id 0 a k.part.spread k.part.marks) s.lists m.lists) in
     omega arith
 
-pub blank_counts : (b : List ℕ) (s : Section) → Bytes b → Means b s → All (λ t. t.count < 2 ^ 32) (blank s).tails
+pub blank_counts : (b : List ℕ) (s : Section) → Bytes b → Means b s → AllByRecursion (λ t. t.count < 2 ^ 32) (blank s).tails
 blank_counts b s a m =
     let sm = log_small b s.header s.log a m.log in
     each s.lists (All-weaker (Stands b s.header s.log) (λ l. length l.nodes < 2 ^ 32) (λ l k. subst (λ z. z < 2 ^ 32) (sym k.counted) (latest_small l.id 0 (flat s.log.transactions) (omega arith) sm)) s.lists m.lists)
   where
-    each : (ls : List NodeList) → All (λ l. length l.nodes < 2 ^ 32) ls → All (λ t. t.count < 2 ^ 32) (map tail_of ls)
+    each : (ls : List NodeList) → AllByRecursion (λ l. length l.nodes < 2 ^ 32) ls → AllByRecursion (λ t. t.count < 2 ^ 32) (map tail_of ls)
     each [] a = tt
     each (l ∷ ls) (p, a) = (p, each ls a)

@@ -1,6 +1,6 @@
 -- What lists hold: it is the same in a row that has their data, and one node or one list more adds to it at one ID.
 use Rattle.std.proofs.Common.{◌≡◌, ℕ, ◌<◌, ◌≤◌, true, false, cond, ◌&&◌, ◌||◌, eqb, ◌≢◌, List, [], ◌∷◌, ◌++◌, map, length, Some, None, sym, refl, ap, ◌∙◌, subst, inl, inr, arith}
-use Rattle.std.specs.List.{AllByRecursion as All}
+use Rattle.std.specs.List.{AllByRecursion}
 use Rattle.std.proofs.lemmas.List.{append-nil}
 use Rattle.std.proofs.lemmas.Bool.{cases_Bool, ne_eqb, eqb-true}
 use Rattle.std.proofs.lemmas.Bool.Decides.{nat_tests}
@@ -29,25 +29,25 @@ same_holds : (b c : List ℕ) (n : Node) (r : Span) → data_of n ≡ r → piec
 same_holds b c n r e q =
     ap (λ (w : List ℕ). content_of n.id n.base (reference_of n) n.payload w) (subst (λ (z : Span). piece c z.start z.size ≡ piece b z.start z.size) (sym e) (sym q))
 
-pub nodes_held : (b c : List ℕ) (ns : List Node) → All (DataSame b c) (references ns) → map (holds c) ns ≡ map (holds b) ns
+pub nodes_held : (b c : List ℕ) (ns : List Node) → AllByRecursion (DataSame b c) (references ns) → map (holds c) ns ≡ map (holds b) ns
 unfolding referring piece
 nodes_held b c [] a = refl
 nodes_held b c (n ∷ ns) a = elim (cases_Bool (eqb n.base 1 && present n.reference)) [
   | inl e ↦
-      let (p, r) : DataSame b c n.reference × All (DataSame b c) (references ns)
-      = subst (λ (z : List Node). All (DataSame b c) (map (λ n. n.reference) z)) (ap (λ z. cond z (n ∷ referring 1 ns) (referring 1 ns)) e) a in
+      let (p, r) : DataSame b c n.reference × AllByRecursion (DataSame b c) (references ns)
+      = subst (λ (z : List Node). AllByRecursion (DataSame b c) (map (λ n. n.reference) z)) (ap (λ z. cond z (n ∷ referring 1 ns) (referring 1 ns)) e) a in
       let q : piece b n.reference.start n.reference.size ≡ piece c n.reference.start n.reference.size
       = piece_in b c n.reference.start (end_of n.reference) n.reference.start n.reference.size p.2 p.0 p.1 (omega arith) (omega arith) in
       let u : holds c n ≡ holds b n = same_holds b c n n.reference (ap (λ z. cond z n.reference (span 0 0)) e) q in
       cc (u, nodes_held b c ns r)
   | inr e ↦
-      let r : All (DataSame b c) (references ns)
-      = subst (λ (z : List Node). All (DataSame b c) (map (λ n. n.reference) z)) (ap (λ z. cond z (n ∷ referring 1 ns) (referring 1 ns)) e) a in
+      let r : AllByRecursion (DataSame b c) (references ns)
+      = subst (λ (z : List Node). AllByRecursion (DataSame b c) (map (λ n. n.reference) z)) (ap (λ z. cond z (n ∷ referring 1 ns) (referring 1 ns)) e) a in
       let u : holds c n ≡ holds b n = same_holds b c n (span 0 0) (ap (λ z. cond z n.reference (span 0 0)) e) refl in
       cc (u, nodes_held b c ns r)
 ]
 
-nodes_data : (P : Span → Type 0) (ls : List NodeList) (id : ℕ) → All P (data_spans ls) → All P (references (nodes_of ls id))
+nodes_data : (P : Span → Type 0) (ls : List NodeList) (id : ℕ) → AllByRecursion P (data_spans ls) → AllByRecursion P (references (nodes_of ls id))
 unfolding nodes_of referring
 nodes_data P [] id a = tt
 nodes_data P (l ∷ ls) id a =
@@ -57,7 +57,7 @@ nodes_data P (l ∷ ls) id a =
       | inr e ↦ rw e (nodes_data P ls id y)
     ]
 
-pub lists_held : (b c : List ℕ) (ls : List NodeList) (id : ℕ) → All (DataSame b c) (data_spans ls) → map (holds c) (nodes_of ls id) ≡ map (holds b) (nodes_of ls id)
+pub lists_held : (b c : List ℕ) (ls : List NodeList) (id : ℕ) → AllByRecursion (DataSame b c) (data_spans ls) → map (holds c) (nodes_of ls id) ≡ map (holds b) (nodes_of ls id)
 lists_held b c ls id a = nodes_held b c (nodes_of ls id) (nodes_data (DataSame b c) ls id a)
 
 -- one more ---------------------------------------------------------------------------------------------------------------
@@ -79,7 +79,7 @@ nodes_push (k ∷ pre) l l' post n id e f (d, ds) =
       | inr x ↦ rw x (nodes_push pre l l' post n id e f ds)
     ]
 
-pub nodes_list : (ls : List NodeList) (m : NodeList) (id : ℕ) → All (λ l. l.id ≢ m.id) ls → nodes_of (ls ++ (m ∷ [])) id ≡ nodes_of ls id ++ cond (eqb m.id id) m.nodes []
+pub nodes_list : (ls : List NodeList) (m : NodeList) (id : ℕ) → AllByRecursion (λ l. l.id ≢ m.id) ls → nodes_of (ls ++ (m ∷ [])) id ≡ nodes_of ls id ++ cond (eqb m.id id) m.nodes []
 unfolding nodes_of
 nodes_list [] m id d = refl
 nodes_list (k ∷ ls) m id (d, ds) = elim (cases_Bool (eqb k.id id)) [

@@ -1,6 +1,6 @@
 -- The counts of a draft: which lists are touched, and what a commit's entries say of them.
 use Rattle.std.proofs.Common.{◌≡◌, ℕ, ◌+◌, ◌<◌, ◌≤◌, true, false, cond, ◌||◌, eqb, ◌≢◌, ◌⊎◌, List, [], ◌∷◌, ◌++◌, map, length, sym, refl, ap, ◌∙◌, subst, inl, inr, arith}
-use Rattle.std.specs.List.{AllByRecursion as All}
+use Rattle.std.specs.List.{AllByRecursion}
 use Rattle.std.proofs.lemmas.List.{append-nil, map-append}
 use Rattle.std.proofs.lemmas.Bool.{cases_Bool, ne_eqb}
 use Rattle.std.proofs.lemmas.Bool.Decides.{nat_tests}
@@ -47,7 +47,7 @@ touch_other x id ids n = elim (cases_Bool (member id ids)) [
 pub touch_again : (id : ℕ) (ids : List ℕ) → member id ids ≡ true → touch id ids ≡ ids
 touch_again id ids e = rw e
 
-not_member : (id : ℕ) (ids : List ℕ) → member id ids ≡ false → All (λ x. x ≢ id) ids
+not_member : (id : ℕ) (ids : List ℕ) → member id ids ≡ false → AllByRecursion (λ x. x ≢ id) ids
 not_member id [] e = tt
 not_member id (x ∷ ids) e = elim (cases_Bool (eqb x id)) [
   | inl y ↦ absurd (grind (arith, nat_tests))
@@ -76,19 +76,19 @@ counts_other ts id ids l n (inr (e, c)) = inr (touch_other l.id id ids n ∙ e, 
 
 -- one list has one node more
 pub counts_push : (ts : List (List Entry)) (ids : List ℕ) (pre : List NodeList) (l l' : NodeList) (post : List NodeList) → Pairwise (λ l m. l.id ≢ m.id) (pre ++ (l ∷ post))
-    → l'.id ≡ l.id → length l'.nodes ≡ length l.nodes + 1 → All (Counts ts ids) (pre ++ (l ∷ post)) → All (Counts ts (touch l.id ids)) (pre ++ (l' ∷ post))
+    → l'.id ≡ l.id → length l'.nodes ≡ length l.nodes + 1 → AllByRecursion (Counts ts ids) (pre ++ (l ∷ post)) → AllByRecursion (Counts ts (touch l.id ids)) (pre ++ (l' ∷ post))
 counts_push ts ids pre l l' post d e n a =
     let (a0, a1) = all_front (Counts ts ids) pre (l ∷ post) a in
     let (d0, d1, d2) = pairs_split (λ l m. l.id ≢ m.id) pre (l ∷ post) d in
     let c = counts_most ts ids l a1.0 in
     let own : Counts ts (touch l.id ids) l' = inl (ap (λ z. member z (touch l.id ids)) e ∙ touch_same l.id ids, subst (λ z. count_in ts z < length l'.nodes) (sym e) (omega arith)) in
     All-append (Counts ts (touch l.id ids)) pre (l' ∷ post)
-    (all_both (λ m. All (λ k. m.id ≢ k.id) (l ∷ post)) (Counts ts ids) (Counts ts (touch l.id ids)) pre (λ m u v. counts_other ts l.id ids m u.0 v) d2 a0)
+    (all_both (λ m. AllByRecursion (λ k. m.id ≢ k.id) (l ∷ post)) (Counts ts ids) (Counts ts (touch l.id ids)) pre (λ m u v. counts_other ts l.id ids m u.0 v) d2 a0)
     (own, all_both (λ m. l.id ≢ m.id) (Counts ts ids) (Counts ts (touch l.id ids)) post (λ m u v. counts_other ts l.id ids m (λ z. u (sym z)) v) d1.0 a1.1)
 
 -- a new list comes
-pub counts_list : (ts : List (List Entry)) (ids : List ℕ) (ls : List NodeList) (l : NodeList) → All (λ m. m.id ≢ l.id) ls → count_in ts l.id < length l.nodes → All (Counts ts ids) ls
-    → All (Counts ts (touch l.id ids)) (ls ++ (l ∷ []))
+pub counts_list : (ts : List (List Entry)) (ids : List ℕ) (ls : List NodeList) (l : NodeList) → AllByRecursion (λ m. m.id ≢ l.id) ls → count_in ts l.id < length l.nodes → AllByRecursion (Counts ts ids) ls
+    → AllByRecursion (Counts ts (touch l.id ids)) (ls ++ (l ∷ []))
 counts_list ts ids ls l d n a =
     All-append (Counts ts (touch l.id ids)) ls (l ∷ [])
     (all_both (λ m. m.id ≢ l.id) (Counts ts ids) (Counts ts (touch l.id ids)) ls (λ m u v. counts_other ts l.id ids m u v) d a)
@@ -128,8 +128,8 @@ count_after : (ts : List (List Entry)) (t : List Entry) (id : ℕ) → count_in 
 count_after ts t id = ap (λ z. latest id 0 z) (flat_push ts t) ∙ latest_row id 0 (flat ts) t
 
 -- after the commit's entries each list has its count of nodes
-pub counted_after : (ts : List (List Entry)) (ids : List ℕ) (count : ℕ → ℕ) (ls : List NodeList) → All (Counts ts ids) ls → All (λ l. count l.id ≡ length l.nodes) ls
-    → All (λ l. length l.nodes ≡ count_in (ts ++ (entries_for count ids ∷ [])) l.id) ls
+pub counted_after : (ts : List (List Entry)) (ids : List ℕ) (count : ℕ → ℕ) (ls : List NodeList) → AllByRecursion (Counts ts ids) ls → AllByRecursion (λ l. count l.id ≡ length l.nodes) ls
+    → AllByRecursion (λ l. length l.nodes ≡ count_in (ts ++ (entries_for count ids ∷ [])) l.id) ls
 counted_after ts ids count ls a c = all_both (Counts ts ids) (λ l. count l.id ≡ length l.nodes) (λ l. length l.nodes ≡ count_in (ts ++ (entries_for count ids ∷ [])) l.id) ls one a c
   where
     one : (l : NodeList) → Counts ts ids l → count l.id ≡ length l.nodes → length l.nodes ≡ count_in (ts ++ (entries_for count ids ∷ [])) l.id
@@ -143,7 +143,7 @@ latest_other id before e n =
     latest_row id 0 before (e ∷ []) ∙ ap (λ z. cond z e.number (latest id 0 before)) q
 
 -- entries of distinct lists, each above the list's last
-pub rising_entries : (before : List Entry) (count : ℕ → ℕ) (ids : List ℕ) → Pairwise (λ x y. x ≢ y) ids → All (λ id. latest id 0 before < count id) ids → Rising before (entries_for count ids)
+pub rising_entries : (before : List Entry) (count : ℕ → ℕ) (ids : List ℕ) → Pairwise (λ x y. x ≢ y) ids → AllByRecursion (λ id. latest id 0 before < count id) ids → Rising before (entries_for count ids)
 rising_entries before count [] p a = tt
 rising_entries before count (x ∷ ids) (p, ps) (a, as') = (
   a,
@@ -152,18 +152,18 @@ rising_entries before count (x ∷ ids) (p, ps) (a, as') = (
       (λ y n l. subst (λ z. z < count y) (sym (latest_other y before (entry x (count x)) n)) l) p as'),
 )
 
-pub counts_lists : (count : ℕ → ℕ) (ids : List ℕ) → All (λ id. 16 ≤ id) ids → CountsLists (entries_for count ids)
+pub counts_lists : (count : ℕ → ℕ) (ids : List ℕ) → AllByRecursion (λ id. 16 ≤ id) ids → CountsLists (entries_for count ids)
 counts_lists count [] a = tt
 counts_lists count (x ∷ ids) (p, a) = ((λ e. omega arith), counts_lists count ids a)
 
 -- the counts of a draft: the lists that it touched, each once, and the IDs of the finished log
 pub record Counting (s : Section) (ids : List ℕ) (highest : ℕ) (ls : List NodeList) : Type 0 where
   pub once : Pairwise (λ x y. x ≢ y) ids
-  pub known : All (λ id. member id (map (λ l. l.id) ls) ≡ true) ids
-  pub counts : All (Counts s.log.transactions ids) ls
-  pub sources : All (λ e. e.source ≤ highest) (flat s.log.transactions)
+  pub known : AllByRecursion (λ id. member id (map (λ l. l.id) ls) ≡ true) ids
+  pub counts : AllByRecursion (Counts s.log.transactions ids) ls
+  pub sources : AllByRecursion (λ e. e.source ≤ highest) (flat s.log.transactions)
 
-touch_all : (P : ℕ → Type 0) (id : ℕ) (ids : List ℕ) → P id → All P ids → All P (touch id ids)
+touch_all : (P : ℕ → Type 0) (id : ℕ) (ids : List ℕ) → P id → AllByRecursion P ids → AllByRecursion P (touch id ids)
 touch_all P id ids p a = elim (cases_Bool (member id ids)) [
   | inl e ↦ rw e a
   | inr e ↦ rw e (All-append P ids (id ∷ []) a (p, tt))
@@ -196,26 +196,26 @@ counting_push s ids highest pre l l' post d e n c =
     let q : map (λ (l : NodeList). l.id) (pre ++ (l' ∷ post)) ≡ map (λ (l : NodeList). l.id) (pre ++ (l ∷ post)) = map_instead (λ (l : NodeList). l.id) pre l l' post e in
     record {
       once = touch_once l.id ids c.once;
-      known = subst (λ z. All (λ id. member id z ≡ true) (touch l.id ids)) (sym q) (touch_all (λ id. member id (map (λ l. l.id) (pre ++ (l ∷ post))) ≡ true) l.id ids (member_middle pre l post) c.known);
+      known = subst (λ z. AllByRecursion (λ id. member id z ≡ true) (touch l.id ids)) (sym q) (touch_all (λ id. member id (map (λ l. l.id) (pre ++ (l ∷ post))) ≡ true) l.id ids (member_middle pre l post) c.known);
       counts = counts_push s.log.transactions ids pre l l' post d e n c.counts;
       sources = c.sources;
     }
 
-pub latest_absent : (id highest n : ℕ) (es : List Entry) → highest < id → All (λ e. e.source ≤ highest) es → latest id n es ≡ n
+pub latest_absent : (id highest n : ℕ) (es : List Entry) → highest < id → AllByRecursion (λ e. e.source ≤ highest) es → latest id n es ≡ n
 unfolding latest
 latest_absent id highest n [] h a = refl
 latest_absent id highest n (e ∷ es) h (p, a) =
     let q : eqb e.source id ≡ false = grind (arith, nat_tests) in
     ap (λ z. latest id (cond z e.number n) es) q ∙ latest_absent id highest n es h a
 
-pub counting_list : (s : Section) (ids : List ℕ) (highest : ℕ) (ls : List NodeList) (l : NodeList) → All (λ m. m.id ≤ highest) ls → l.id ≡ highest + 1 → length l.nodes ≡ 1
+pub counting_list : (s : Section) (ids : List ℕ) (highest : ℕ) (ls : List NodeList) (l : NodeList) → AllByRecursion (λ m. m.id ≤ highest) ls → l.id ≡ highest + 1 → length l.nodes ≡ 1
     → Counting s ids highest ls → Counting s (touch l.id ids) (highest + 1) (ls ++ (l ∷ []))
 counting_list s ids highest ls l d e n c =
     let q : map (λ (l : NodeList). l.id) (ls ++ (l ∷ [])) ≡ map (λ (l : NodeList). l.id) ls ++ (l.id ∷ []) = map-append (λ (l : NodeList). l.id) ls (l ∷ []) in
     let z : count_in s.log.transactions l.id ≡ 0 = latest_absent l.id highest 0 (flat s.log.transactions) (omega arith) c.sources in
     record {
       once = touch_once l.id ids c.once;
-      known = subst (λ z. All (λ id. member id z ≡ true) (touch l.id ids)) (sym q) (touch_all (λ id. member id (map (λ l. l.id) ls ++ (l.id ∷ [])) ≡ true) l.id ids
+      known = subst (λ z. AllByRecursion (λ id. member id z ≡ true) (touch l.id ids)) (sym q) (touch_all (λ id. member id (map (λ l. l.id) ls ++ (l.id ∷ [])) ≡ true) l.id ids
           (member_right l.id (map (λ l. l.id) ls) (l.id ∷ []) (let w : eqb l.id l.id ≡ true = grind (arith, nat_tests) in rw w))
           (All-weaker (λ id. member id (map (λ l. l.id) ls) ≡ true) (λ id. member id (map (λ l. l.id) ls ++ (l.id ∷ [])) ≡ true) (λ id x. member_left id (map (λ l. l.id) ls) (l.id ∷ []) x) ids c.known));
       counts = counts_list s.log.transactions ids ls l (All-weaker (λ m. m.id ≤ highest) (λ m. m.id ≢ l.id) (λ m x y. omega arith) ls d) (omega arith) c.counts;

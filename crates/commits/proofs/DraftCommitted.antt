@@ -1,6 +1,6 @@
 -- The commit of a draft: its transaction follows the finished log and counts its lists, and its writes make the whole.
 use Rattle.std.proofs.Common.{◌≡◌, ℕ, ◌+◌, ◌^◌, ◌<◌, ◌≤◌, true, false, cond, ◌||◌, eqb, ltb, leb, ◌≢◌, List, [], ◌∷◌, ◌++◌, map, length, sym, refl, ap, ◌∙◌, subst, inl, inr, arith}
-use Rattle.std.specs.List.{AllByRecursion as All}
+use Rattle.std.specs.List.{AllByRecursion}
 use Rattle.std.proofs.lemmas.List.{length-append, length-map}
 use Rattle.std.proofs.lemmas.Bool.{cases_Bool, ne_eqb}
 use Rattle.std.proofs.lemmas.Bool.Decides.{nat_tests}
@@ -36,7 +36,7 @@ use Rattle.commits.proofs.HeaderWritten.{head_kept, commit_head}
 use Rattle.commits.proofs.Around.{other_same, Kept}
 
 -- each list's tail is found by its ID
-tails_count : (ls : List NodeList) → Pairwise (λ l m. l.id ≢ m.id) ls → All (λ l. (find_tail (map tail_of ls) l.id).count ≡ length l.nodes) ls
+tails_count : (ls : List NodeList) → Pairwise (λ l m. l.id ≢ m.id) ls → AllByRecursion (λ l. (find_tail (map tail_of ls) l.id).count ≡ length l.nodes) ls
 unfolding find_tail
 tails_count [] p = tt
 tails_count (m ∷ ls) (p, ps) =
@@ -50,14 +50,14 @@ tails_count (m ∷ ls) (p, ps) =
     )
 
 -- what holds of each list's ID holds of an ID among them
-from_member : (P : ℕ → Type 0) (id : ℕ) (ls : List NodeList) → member id (map (λ l. l.id) ls) ≡ true → All (λ l. P l.id) ls → P id
+from_member : (P : ℕ → Type 0) (id : ℕ) (ls : List NodeList) → member id (map (λ l. l.id) ls) ≡ true → AllByRecursion (λ l. P l.id) ls → P id
 from_member P id [] e a = absurd (grind arith)
 from_member P id (l ∷ ls) e (p, a) = elim (cases_Bool (eqb l.id id)) [
   | inl x ↦ let q : l.id ≡ id = grind (arith, nat_tests) in subst P q p
   | inr x ↦ from_member P id ls (rw x at e) a
 ]
 
-member_self : (ids : List ℕ) → All (λ x. member x ids ≡ true) ids
+member_self : (ids : List ℕ) → AllByRecursion (λ x. member x ids ≡ true) ids
 member_self [] = tt
 member_self (x ∷ ids) =
     let q : eqb x x ≡ true = grind (arith, nat_tests) in (
@@ -70,20 +70,20 @@ member_self (x ∷ ids) =
 
 -- the draft's transaction follows, and each list then has its count
 pub draft_follows : (c : List ℕ) (s : Section) (y : Layout) (ls : List NodeList) → Drafted c s y ls
-    → Follows s.log.transactions (count_entries y) × All (λ l. length l.nodes ≡ count_in (s.log.transactions ++ (count_entries y ∷ [])) l.id) ls
+    → Follows s.log.transactions (count_entries y) × AllByRecursion (λ l. length l.nodes ≡ count_in (s.log.transactions ++ (count_entries y ∷ [])) l.id) ls
 draft_follows c s y ls d =
     let ts = s.log.transactions in
     let T = y.touched in
     let count : ℕ → ℕ = λ id. (find_tail y.tails id).count in
     let k = d.counting in
-    let each : All (λ l. count l.id ≡ length l.nodes) ls
-    = subst (λ (z : List Tail). All (λ l. (find_tail z l.id).count ≡ length l.nodes) ls) (sym d.laid.tails) (tails_count ls d.laid.body.ids_differ) in
-    let rise : All (λ l. member l.id T ≡ true → count_in ts l.id < count l.id) ls
+    let each : AllByRecursion (λ l. count l.id ≡ length l.nodes) ls
+    = subst (λ (z : List Tail). AllByRecursion (λ l. (find_tail z l.id).count ≡ length l.nodes) ls) (sym d.laid.tails) (tails_count ls d.laid.body.ids_differ) in
+    let rise : AllByRecursion (λ l. member l.id T ≡ true → count_in ts l.id < count l.id) ls
     = all_both (Counts ts T) (λ l. count l.id ≡ length l.nodes) (λ l. member l.id T ≡ true → count_in ts l.id < count l.id) ls (λ l u v w. above ts T count l u v w) k.counts each in
-    let up : All (λ id. count_in ts id < count id) T
+    let up : AllByRecursion (λ id. count_in ts id < count id) T
     = all_both (λ id. member id (map (λ l. l.id) ls) ≡ true) (λ id. member id T ≡ true) (λ id. count_in ts id < count id) T
     (λ id u v. from_member (λ x. member x T ≡ true → count_in ts x < count x) id ls u rise v) k.known (member_self T) in
-    let real : All (λ id. 16 ≤ id) T = All-weaker (λ id. member id (map (λ l. l.id) ls) ≡ true) (λ id. 16 ≤ id) (λ id u. from_member (λ x. 16 ≤ x) id ls u (All-weaker (Right c (up_to s.header y.end)) (λ l. 16 ≤ l.id) (λ l r. r.part.real) ls d.laid.body.lists)) T k.known in
+    let real : AllByRecursion (λ id. 16 ≤ id) T = All-weaker (λ id. member id (map (λ l. l.id) ls) ≡ true) (λ id. 16 ≤ id) (λ id u. from_member (λ x. 16 ≤ x) id ls u (All-weaker (Right c (up_to s.header y.end)) (λ l. 16 ≤ l.id) (λ l r. r.part.real) ls d.laid.body.lists)) T k.known in
     (record { lists = counts_lists count T real; rising = rising_entries (flat ts) count T k.once up }, counted_after ts T count ls k.counts each)
   where
     above : (ts : List (List Entry)) (T : List ℕ) (count : ℕ → ℕ) (l : NodeList) → Counts ts T l → count l.id ≡ length l.nodes → member l.id T ≡ true → count_in ts l.id < count l.id
@@ -92,7 +92,7 @@ draft_follows c s y ls d =
 
 -- what a commit leaves --------------------------------------------------------------------------------------------------
 
-find_count : (ts : List Tail) (id : ℕ) → All (λ t. t.count < 2 ^ 32) ts → (find_tail ts id).count < 2 ^ 32
+find_count : (ts : List Tail) (id : ℕ) → AllByRecursion (λ t. t.count < 2 ^ 32) ts → (find_tail ts id).count < 2 ^ 32
 unfolding find_tail
 find_count [] id a = omega arith
 find_count (t ∷ ts) id (p, a) = elim (cases_Bool (eqb t.id id)) [
@@ -101,12 +101,12 @@ find_count (t ∷ ts) id (p, a) = elim (cases_Bool (eqb t.id id)) [
 ]
 
 -- the numbers of a commit's entries take 4 bytes each
-draft_small : (c : List ℕ) (s : Section) (y : Layout) (ls : List NodeList) → Drafted c s y ls → Fine y → All Small (new_entries y)
+draft_small : (c : List ℕ) (s : Section) (y : Layout) (ls : List NodeList) → Drafted c s y ls → Fine y → AllByRecursion Small (new_entries y)
 draft_small c s y ls d f =
     let top = f.highest in
     closed_small (count_entries y) (each y.touched (All-weaker (λ id. member id (map (λ l. l.id) ls) ≡ true) (λ id. id < 2 ^ 32) (λ id u. from_member (λ x. x < 2 ^ 32) id ls u (All-weaker (λ l. l.id ≤ y.highest) (λ l. l.id < 2 ^ 32) (λ l k. omega arith) ls d.laid.known)) y.touched d.counting.known))
   where
-    each : (ids : List ℕ) → All (λ id. id < 2 ^ 32) ids → All Small (map (λ id. entry id (find_tail y.tails id).count) ids)
+    each : (ids : List ℕ) → AllByRecursion (λ id. id < 2 ^ 32) ids → AllByRecursion Small (map (λ id. entry id (find_tail y.tails id).count) ids)
     each [] a = tt
     each (id ∷ ids) (p, a) = ((p, find_count y.tails id f.counts), each ids a)
 
@@ -137,7 +137,7 @@ pub record Committed (c c2 : List ℕ) (s : Section) (y : Layout) (ls : List Nod
   pub log : Log
   pub transactions : log.transactions ≡ s.log.transactions ++ (count_entries y ∷ [])
   pub means : Means c2 (record { header = headed s.header (logged s y).end guid; log = log; lists = ls })
-  pub data_same : All (DataSame c c2) (data_spans ls)
+  pub data_same : AllByRecursion (DataSame c c2) (data_spans ls)
 
 -- all of a commit's writes
 pub commit_done : (c : List ℕ) (ceiling : ℕ) (s : Section) (adds : List Add) (ls : List NodeList) (guid : List ℕ) → Drafted c s (layout s adds) ls → Fine (layout s adds) → length guid ≡ 16
@@ -168,10 +168,10 @@ commit_done c ceiling s adds ls guid d f g k =
     let q : applied c ((logged s y).writes ++ (header_write c s.header end guid ∷ [])) ≡ c2 = applied_row c (logged s y).writes (header_write c s.header end guid ∷ []) ∙ ap (λ (z : Write). applied c1 (z ∷ [])) hw in
     let (e2, r2) = head_rest c1 s.header end guid a1.whole g in
     let M = commit_head c1 s L.log ls end guid a1 g n.count n.generation n.end L.logs L.body (tied_header (up_to s.header y.end) H ls refl d.tied)
-    (subst (λ (z : List (List Entry)). All (λ l. length l.nodes ≡ count_in z l.id) ls) (sym L.transactions) counted) (omega (arith, d.laid.lists, f.lists)) L.few in
-    let far : All (λ r. Apart L.last r × Apart header_span r) (data_spans ls)
-    = all_both (Apart L.last) (λ r. All (Apart r) (header_span ∷ (gs ++ lf))) (λ r. Apart L.last r × Apart header_span r) (data_spans ls) (λ r u v. (u, λ i x z. v.0 i z x)) L.data_apart d.laid.body.data_apart in
-    let D : All (DataSame c c2) (data_spans ls)
+    (subst (λ (z : List (List Entry)). AllByRecursion (λ l. length l.nodes ≡ count_in z l.id) ls) (sym L.transactions) counted) (omega (arith, d.laid.lists, f.lists)) L.few in
+    let far : AllByRecursion (λ r. Apart L.last r × Apart header_span r) (data_spans ls)
+    = all_both (Apart L.last) (λ r. AllByRecursion (Apart r) (header_span ∷ (gs ++ lf))) (λ r. Apart L.last r × Apart header_span r) (data_spans ls) (λ r u v. (u, λ i x z. v.0 i z x)) L.data_apart d.laid.body.data_apart in
+    let D : AllByRecursion (DataSame c c2) (data_spans ls)
     = all_both (λ r. end_of r ≤ y.end) (λ r. Apart L.last r × Apart header_span r) (DataSame c c2) (data_spans ls)
     (λ r u v. (omega arith, omega arith, λ i x z. other_same c c1 y.end L.last L.place 0 0 B r v.0 u i x z ∙ head_kept c1 c2 r r2 v.1 i x z)) d.laid.body.data_inside far in
     subst (λ (z : List ℕ). Committed c z s y ls guid) (sym q) (record { log = L.log; transactions = L.transactions; means = M; data_same = D })

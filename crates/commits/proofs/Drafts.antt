@@ -1,6 +1,6 @@
 -- All adds of a draft, one after the other.
 use Rattle.std.proofs.Common.{◌≡◌, ℕ, ◌+◌, ◌^◌, ◌<◌, ◌≤◌, max, true, false, ◌||◌, eqb, ltb, leb, List, [], ◌∷◌, ◌++◌, map, length, sym, refl, ap, ◌∙◌, subst, inl, inr, arith}
-use Rattle.std.specs.List.{AllByRecursion as All}
+use Rattle.std.specs.List.{AllByRecursion}
 use Rattle.std.proofs.lemmas.List.{append_assoc, append-nil}
 use Rattle.std.proofs.lemmas.Bool.{cases_Bool, cond_both}
 use Rattle.std.proofs.lemmas.Bool.Decides.{nat_tests}
@@ -33,10 +33,10 @@ fair id e = (grind (arith, nat_tests), grind (arith, nat_tests), grind (arith, n
 
 -- the tails' counts, where the changed one is checked
 abbrev FewCounts : List Tail → Type 0
-FewCounts ts = All (λ t. t.count < 2 ^ 32) ts
+FewCounts ts = AllByRecursion (λ t. t.count < 2 ^ 32) ts
 
 -- what holds of each tail and of the changed one
-pub tails_with : (P : Tail → Type 0) (t : Tail) (ts : List Tail) → P t → All P ts → All P (with_tail t ts)
+pub tails_with : (P : Tail → Type 0) (t : Tail) (ts : List Tail) → P t → AllByRecursion P ts → AllByRecursion P (with_tail t ts)
 tails_with P t [] p a = tt
 tails_with P t (u ∷ us) p a = (cond_both (eqb u.id t.id) t u P (λ e. p) (λ e. a.0), tails_with P t us p a.1)
 
@@ -133,12 +133,12 @@ adds_drafted c ceiling s y ls (a ∷ more) d f (u, v, w) =
     )
 
 -- the start
-greatest_all : (ls : List NodeList) (n : ℕ) → All (λ l. l.id ≤ max n (greatest (map (λ m. m.id) ls))) ls
+greatest_all : (ls : List NodeList) (n : ℕ) → AllByRecursion (λ l. l.id ≤ max n (greatest (map (λ m. m.id) ls))) ls
 unfolding greatest
 greatest_all [] n = tt
 greatest_all (l ∷ ls) n = (omega arith, All-weaker (λ m. m.id ≤ max n (greatest (map (λ m. m.id) ls))) (λ m. m.id ≤ max n (max l.id (greatest (map (λ m. m.id) ls)))) (λ m x. omega arith) ls (greatest_all ls n))
 
-greatest_sources : (es : List Entry) (n : ℕ) → All (λ e. e.source ≤ max (greatest (map (λ x. x.source) es)) n) es
+greatest_sources : (es : List Entry) (n : ℕ) → AllByRecursion (λ e. e.source ≤ max (greatest (map (λ x. x.source) es)) n) es
 unfolding greatest
 greatest_sources [] n = tt
 greatest_sources (e ∷ es) n = (omega arith, All-weaker (λ x. x.source ≤ max (greatest (map (λ x. x.source) es)) n) (λ x. x.source ≤ max (max e.source (greatest (map (λ x. x.source) es))) n) (λ x y. omega arith) es (greatest_sources es n))

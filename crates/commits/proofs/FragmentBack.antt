@@ -1,6 +1,6 @@
 -- A fragment that was written has its marks and its node; log entries that were written read back.
 use Rattle.std.proofs.Common.{◌≡◌, ℕ, ◌+◌, ◌-◌, ◌*◌, ◌^◌, ◌<◌, ◌≤◌, List, [], ◌∷◌, ◌++◌, length, replicate, refl, arith}
-use Rattle.std.specs.List.{AllByRecursion as All}
+use Rattle.std.specs.List.{AllByRecursion}
 use Rattle.std.proofs.lemmas.List.{length-replicate}
 use Rattle.model.specs.declared.types.Span.{Span}
 use Rattle.model.specs.declared.types.Entry.{Entry}
@@ -50,7 +50,7 @@ fragment_back b p id number node h k l o =
 abbrev pub Small : Entry → Type 0
 Small e = (e.source < 2 ^ 32) × (e.number < 2 ^ 32)
 
-pub entries_back : (b : List ℕ) (f : Span) (i : ℕ) (es : List Entry) → All Small es → Stored b (entry_place f i) (entry_bytes es) → entries_of b f i (length es) ≡ es
+pub entries_back : (b : List ℕ) (f : Span) (i : ℕ) (es : List Entry) → AllByRecursion Small es → Stored b (entry_place f i) (entry_bytes es) → entries_of b f i (length es) ≡ es
 entries_back b f i [] a o = refl
 entries_back b f i (e ∷ es) (x, a) o =
     let (y, z) = entry_stored b (entry_place f i) e es x.0 x.1 o in

@@ -1,6 +1,6 @@
 -- What the lists of a draft hold: what they held and then what is new for them.
 use Rattle.std.proofs.Common.{◌≡◌, ℕ, ◌<◌, ◌≤◌, false, cond, eqb, ◌≢◌, List, [], ◌∷◌, ◌++◌, map, ap, ◌∙◌, inl, inr, arith}
-use Rattle.std.specs.List.{AllByRecursion as All}
+use Rattle.std.specs.List.{AllByRecursion}
 use Rattle.std.proofs.lemmas.List.{append-nil, map-append}
 use Rattle.std.proofs.lemmas.Bool.{cases_Bool}
 use Rattle.std.proofs.lemmas.Bool.Decides.{nat_tests}
@@ -51,7 +51,7 @@ pushed_holds c s y pre l post new n P X id d a q what =
     let ri = q.rises in
     let at : Node = n q.place in
     let same : (r : Span) → F r → DataSame c c' r = λ r x. (omega (arith, x.0), omega (arith, x.0), q.data_kept r x) in
-    let olds : All F (data_spans ls) = all_both (λ r. end_of r ≤ y.end) (λ r. All (Apart r) (header_span ∷ (s.log.fragments ++ list_fragments ls))) F (data_spans ls) (λ r x z. (x, z)) d.body.data_inside d.body.data_apart in
+    let olds : AllByRecursion F (data_spans ls) = all_both (λ r. end_of r ≤ y.end) (λ r. AllByRecursion (Apart r) (header_span ∷ (s.log.fragments ++ list_fragments ls))) F (data_spans ls) (λ r x z. (x, z)) d.body.data_inside d.body.data_apart in
     let h1 = lists_held c c' ls id (All-weaker F (DataSame c c') same (data_spans ls) olds) in
     let h2 : map (holds c') (at ∷ []) ≡ map (holds c) (at ∷ []) = nodes_held c c' (at ∷ []) (All-weaker F (DataSame c c') same (references (at ∷ [])) (a.data_fits q.place)) in
     let h3 : map (holds c') (at ∷ []) ≡ X ∷ [] = h2 ∙ ap (λ (z : Content). z ∷ []) (what q.place) in
@@ -64,7 +64,7 @@ pushed_holds c s y pre l post new n P X id d a q what =
     ])
 
 -- what the lists hold with one list more
-pub list_holds : (c c1 : List ℕ) (ls : List NodeList) (m : NodeList) (Y : Content) (id : ℕ) → All (λ l. l.id ≢ m.id) ls → map (holds c1) m.nodes ≡ Y ∷ []
+pub list_holds : (c c1 : List ℕ) (ls : List NodeList) (m : NodeList) (Y : Content) (id : ℕ) → AllByRecursion (λ l. l.id ≢ m.id) ls → map (holds c1) m.nodes ≡ Y ∷ []
     → map (holds c1) (nodes_of ls id) ≡ map (holds c) (nodes_of ls id) → map (holds c1) (nodes_of (ls ++ (m ∷ [])) id) ≡ map (holds c) (nodes_of ls id) ++ cond (eqb m.id id) (Y ∷ []) []
 list_holds c c1 ls m Y id d e f =
     ap (λ (z : List Node). map (holds c1) z) (nodes_list ls m id d)

@@ -1,6 +1,6 @@
 -- A commit's last write, that of the header, makes the whole.
 use Rattle.std.proofs.Common.{◌≡◌, ℕ, ◌+◌, ◌^◌, ◌<◌, ◌≤◌, List, [], ◌∷◌, ◌++◌, length, inl, inr, arith}
-use Rattle.std.specs.List.{AllByRecursion as All}
+use Rattle.std.specs.List.{AllByRecursion}
 use Rattle.std.proofs.lemmas.Bool.{cases_lt}
 use Rattle.std.proofs.ByRecursion.{All-weaker}
 use Rattle.model.specs.declared.types.Span.{Span}
@@ -26,7 +26,7 @@ head_kept b c f s a i l k = elim (cases_lt i 1024) [
 ]
 
 means_from : (c : List ℕ) (h : Header) (log : Log) (ls : List NodeList) → Headed c h → Logs c h log → Body c h log.fragments ls → Tied h ls
-    → All (λ l. length l.nodes ≡ count_in log.transactions l.id) ls → length ls ≤ 1024 → length (log.fragments ++ list_fragments ls) ≤ 2048
+    → AllByRecursion (λ l. length l.nodes ≡ count_in log.transactions l.id) ls → length ls ≤ 1024 → length (log.fragments ++ list_fragments ls) ≤ 2048
     → Means c (record { header = h; log = log; lists = ls })
 means_from c h log ls a g d t k x y = record {
   header = a;
@@ -47,7 +47,7 @@ means_from c h log ls a g d t k x y = record {
 pub commit_head : (c : List ℕ) (s : Section) (log : Log) (ls : List NodeList) (end : ℕ) (guid : List ℕ) → Headed c s.header → length guid ≡ 16
     → s.header.count + 1 < 2 ^ 32 → s.header.generation + 1 < 2 ^ 64 → end ≤ 2 ^ 40
     → Logs c (headed s.header end guid) log → Body c (headed s.header end guid) log.fragments ls → Tied (headed s.header end guid) ls
-    → All (λ l. length l.nodes ≡ count_in log.transactions l.id) ls → length ls ≤ 1024 → length (log.fragments ++ list_fragments ls) ≤ 2048
+    → AllByRecursion (λ l. length l.nodes ≡ count_in log.transactions l.id) ls → length ls ≤ 1024 → length (log.fragments ++ list_fragments ls) ≤ 2048
     → Means (applied c (header_write c s.header end guid ∷ [])) (record { header = headed s.header end guid; log = log; lists = ls })
 commit_head c s log ls end guid a g u v w l d t k x y =
     let H : Header = headed s.header end guid in
@@ -56,6 +56,6 @@ commit_head c s log ls end guid a g u v w l d t k x y =
     let (e, r) = head_rest c s.header end guid a.whole g in
     let wh = d.whole in
     let (p0, p1) = all_front (Apart header_span) log.fragments lf d.apart.0 in
-    let k1 : All (Kept c c2) lf = All-weaker (Apart header_span) (Kept c c2) (λ f z. head_kept c c2 f r z) lf p1 in
-    let k2 : All (Kept c c2) log.fragments = All-weaker (Apart header_span) (Kept c c2) (λ f z. head_kept c c2 f r z) log.fragments p0 in
+    let k1 : AllByRecursion (Kept c c2) lf = All-weaker (Apart header_span) (Kept c c2) (λ f z. head_kept c c2 f r z) lf p1 in
+    let k2 : AllByRecursion (Kept c c2) log.fragments = All-weaker (Apart header_span) (Kept c c2) (λ f z. head_kept c c2 f r z) log.fragments p0 in
     means_from c2 H log ls (header_back c s.header end guid a g u v d.least w wh) (logs_same c c2 H log k2 l) (body_same c c2 H H log.fragments ls d (omega arith) (omega arith) k1) t k x y

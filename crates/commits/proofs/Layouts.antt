@@ -1,6 +1,6 @@
 -- One node more, as a layout plans it.
 use Rattle.std.proofs.Common.{◌≡◌, ℕ, ◌+◌, ◌-◌, ◌%◌, ◌^◌, ◌<◌, ◌≤◌, true, false, eqb, leb, ◌≢◌, List, [], ◌∷◌, ◌++◌, map, length, replicate, sym, refl, ap, ◌∙◌, subst, inl, inr, arith}
-use Rattle.std.specs.List.{AllByRecursion as All}
+use Rattle.std.specs.List.{AllByRecursion}
 use Rattle.std.proofs.lemmas.List.{length-append, get_or_append_left}
 use Rattle.std.proofs.lemmas.Bool.{cases_Bool, ne_eqb}
 use Rattle.std.proofs.lemmas.Bool.Decides.{nat_tests}
@@ -49,7 +49,7 @@ found (l ∷ ls) id e = elim (cases_Bool (eqb l.id id)) [
 ]
 
 -- the other tails stay
-tails_other : (t : Tail) (ms : List NodeList) → All (λ m. t.id ≢ m.id) ms → with_tail t (map tail_of ms) ≡ map tail_of ms
+tails_other : (t : Tail) (ms : List NodeList) → AllByRecursion (λ m. t.id ≢ m.id) ms → with_tail t (map tail_of ms) ≡ map tail_of ms
 tails_other t [] a = refl
 tails_other t (m ∷ ms) (p, a) =
     let e = ne_eqb m.id t.id (λ z. p (sym z)) in
@@ -96,14 +96,14 @@ pub record Pushed (c : List ℕ) (s : Section) (y : Layout) (n : ℕ → Node) (
   pub first : first_of list ≡ first_of l
   pub laid : Laid (applied c p.writes) s p.layout (pre ++ (list ∷ post))
   pub rises : y.end ≤ p.layout.end
-  pub kept : All (Kept c (applied c p.writes)) (header_span ∷ s.log.fragments)
+  pub kept : AllByRecursion (Kept c (applied c p.writes)) (header_span ∷ s.log.fragments)
   -- data is apart from all fragments
   pub data_kept : (r : Span) → DataFits y.end (s.log.fragments ++ list_fragments (pre ++ (l ∷ post))) r → Kept c (applied c p.writes) r
 
 -- a node that may be added to the lists
 pub record Addable (s : Section) (y : Layout) (ls : List NodeList) (new : List ℕ) (n : ℕ → Node) : Type 0 where
   pub made : Made new n
-  pub data_fits : (p : ℕ) → All (DataFits y.end (s.log.fragments ++ list_fragments ls)) (references (n p ∷ []))
+  pub data_fits : (p : ℕ) → AllByRecursion (DataFits y.end (s.log.fragments ++ list_fragments ls)) (references (n p ∷ []))
 
 pushed_fits : (c : List ℕ) (s : Section) (y : Layout) (pre : List NodeList) (l : NodeList) (post : List NodeList) (new : List ℕ) (n : ℕ → Node)
     → Laid c s y (pre ++ (l ∷ post)) → Addable s y (pre ++ (l ∷ post)) new n → l.free + length new ≤ nodes_to (last_fragment l.fragments)
@@ -196,7 +196,7 @@ pushed_spills c s y pre l post new n d a x1 x2 x3 =
         known = All-append (λ m. m.id ≤ y.highest) pre (l' ∷ post) u v;
       };
       rises = omega arith;
-      kept = subst (λ z. All (Kept c z) (header_span ∷ gs)) (sym q) bd.1;
+      kept = subst (λ z. AllByRecursion (Kept c z) (header_span ∷ gs)) (sym q) bd.1;
       data_kept = λ r x. subst (λ z. Kept c z r) (sym q) (bd.2 r x);
     }
 

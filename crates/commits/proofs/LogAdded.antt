@@ -1,6 +1,6 @@
 -- A log with one transaction more: its entries fit into the last fragment, or go on in a new one.
 use Rattle.std.proofs.Common.{◌≡◌, ℕ, zero, suc, ◌+◌, ◌*◌, ◌<◌, ◌≤◌, List, [], ◌∷◌, ◌++◌, map, length, sym, refl, ap, ◌∙◌, subst, arith}
-use Rattle.std.specs.List.{AllByRecursion as All}
+use Rattle.std.specs.List.{AllByRecursion}
 use Rattle.std.proofs.lemmas.List.{append_assoc, append-nil, length-append}
 use Rattle.std.proofs.ByRecursion.{All-append, All-weaker}
 use Rattle.model.specs.declared.types.Span.{Span}
@@ -40,7 +40,7 @@ entries_local b c f i (suc n) s =
 pub next_inside : (f : Span) → 12 ≤ f.size → log_next f + 12 ≤ end_of f
 next_inside f h = omega arith
 
-pub row_local : (b c : List ℕ) (end : ℕ) (fs : List Span) (used : ℕ) → All (Inside 12 end) fs → LogAgree b c fs used → log_row b fs used ≡ log_row c fs used
+pub row_local : (b c : List ℕ) (end : ℕ) (fs : List Span) (used : ℕ) → AllByRecursion (Inside 12 end) fs → LogAgree b c fs used → log_row b fs used ≡ log_row c fs used
 row_local b c end [] used i a = refl
 row_local b c end (f ∷ []) used i a = entries_local b c f 0 used (λ j l h. a j l (omega arith))
 row_local b c end (f ∷ (g ∷ gs)) used ((x, y), i) (s, a) =
@@ -49,7 +49,7 @@ row_local b c end (f ∷ (g ∷ gs)) used ((x, y), i) (s, a) =
     let v = row_local b c end (g ∷ gs) used i a in
     rw (u, v)
 
-pub chain_local : (b c : List ℕ) (end : ℕ) (r : Span) (fs : List Span) (used : ℕ) → All (Inside 12 end) fs → LogAgree b c fs used
+pub chain_local : (b c : List ℕ) (end : ℕ) (r : Span) (fs : List Span) (used : ℕ) → AllByRecursion (Inside 12 end) fs → LogAgree b c fs used
     → Chain (λ f. span_at b (log_next f)) r fs → Chain (λ f. span_at c (log_next f)) r fs
 chain_local b c end r [] used i a k = tt
 chain_local b c end r (f ∷ []) used i a (e, k) = (e, tt)
@@ -84,7 +84,7 @@ pub split_log : (P : List Span → Type 0) (fs : List Span) → 1 ≤ length fs 
 split_log P [] h k = absurd (omega arith)
 split_log P (f ∷ gs) h k = k f gs
 
-inside_later : (end end' : ℕ) (fs : List Span) → end ≤ end' → All (Inside 12 end) fs → All (Inside 12 end') fs
+inside_later : (end end' : ℕ) (fs : List Span) → end ≤ end' → AllByRecursion (Inside 12 end) fs → AllByRecursion (Inside 12 end') fs
 inside_later end end' fs h a = All-weaker (Inside 12 end) (Inside 12 end') (λ f x. (x.0, omega (arith, x.1))) fs a
 
 -- its entries fit
@@ -122,7 +122,7 @@ log_fits b c h h' l t g a e r n w p q =
 pub log_spills : (b c : List ℕ) (h h' : Header) (l : Log) (t fit rest : List Entry) (x : Span) → Logs b h l → LogAgree b c l.fragments l.used → h.end ≤ h'.end → h'.log ≡ h.log → h'.count ≡ h.count + 1
     → Follows l.transactions t → closed t ≡ fit ++ rest → l.used + length fit ≡ entries_in (last_of (span 0 0) l.fragments).size
     → entries_of c (last_of (span 0 0) l.fragments) l.used (length fit) ≡ fit → span_at c (log_next (last_of (span 0 0) l.fragments)) ≡ x
-    → entries_of c x 0 (length rest) ≡ rest → 1 ≤ length rest → length rest ≤ entries_in x.size → Inside 12 h'.end x → All (λ f. Apart f x) (header_span ∷ l.fragments) → length l.fragments < 2048
+    → entries_of c x 0 (length rest) ≡ rest → 1 ≤ length rest → length rest ≤ entries_in x.size → Inside 12 h'.end x → AllByRecursion (λ f. Apart f x) (header_span ∷ l.fragments) → length l.fragments < 2048
     → Logs c h' (record { fragments = l.fragments ++ (x ∷ []); transactions = l.transactions ++ (t ∷ []); used = length rest })
 log_spills b c h h' l t fit rest x g a e r n w s p q y z u v i o m =
     let fs = l.fragments in

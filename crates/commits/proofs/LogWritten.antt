@@ -1,6 +1,6 @@
 -- The log's writes of a commit, all cases: its entries fit into the last log fragment, or go on in a new one at the draft's end.
 use Rattle.std.proofs.Common.{◌≡◌, ℕ, ◌+◌, ◌-◌, ◌*◌, ◌%◌, ◌<◌, ◌≤◌, ltb, List, [], ◌∷◌, ◌++◌, length, take, drop, replicate, sym, refl, ap, ◌∙◌, subst, inl, inr, arith}
-use Rattle.std.specs.List.{AllByRecursion as All}
+use Rattle.std.specs.List.{AllByRecursion}
 use Rattle.std.proofs.lemmas.List.{append_assoc, length-append, length-take, length-drop, take_all, drop_all, take-append-drop}
 use Rattle.std.proofs.lemmas.Bool.{cases_Bool}
 use Rattle.std.proofs.lemmas.Bool.Decides.{nat_tests}
@@ -34,7 +34,7 @@ use Rattle.commits.proofs.SameRow.{body_same}
 use Rattle.commits.proofs.Around.{Kept, around_none, around_in, around_past, other_same}
 
 -- the finished log, of whose last fragment only what is behind the used entries was written
-around_log : (b c : List ℕ) (end : ℕ) (d : Span) (fs : List Span) (used lo : ℕ) → Around b c end (last_of d fs) lo 0 0 → Pairwise Apart fs → All (λ f. end_of f ≤ end) fs
+around_log : (b c : List ℕ) (end : ℕ) (d : Span) (fs : List Span) (used lo : ℕ) → Around b c end (last_of d fs) lo 0 0 → Pairwise Apart fs → AllByRecursion (λ f. end_of f ≤ end) fs
     → (last_of d fs).start + 8 * used ≤ lo → lo ≤ end → LogAgree b c fs used
 around_log b c end d [] used lo o a h k l = tt
 around_log b c end d (f ∷ []) used lo o a h k l = λ i x y. o.kept i (omega arith) (inl (omega arith))
@@ -53,14 +53,14 @@ pub record LogDone (c c1 : List ℕ) (s : Section) (y : Layout) (ls : List NodeL
   pub last : Span
   pub place : ℕ
   pub around : Around c c1 y.end last place 0 0
-  pub apart : All (Apart last) (header_span ∷ list_fragments ls)
-  pub data_apart : All (Apart last) (data_spans ls)
+  pub apart : AllByRecursion (Apart last) (header_span ∷ list_fragments ls)
+  pub data_apart : AllByRecursion (Apart last) (data_spans ls)
 
 -- the last log fragment: where it ends, what it is apart from
 record Last (s : Section) (ls : List NodeList) (g : Span) : Type 0 where
   inside : Inside 12 s.header.end g
-  others : All (Apart g) (header_span ∷ list_fragments ls)
-  contents : All (Apart g) (data_spans ls)
+  others : AllByRecursion (Apart g) (header_span ∷ list_fragments ls)
+  contents : AllByRecursion (Apart g) (data_spans ls)
 
 last_log : (c : List ℕ) (s : Section) (y : Layout) (ls : List NodeList) → Drafted c s y ls → Last s ls (last_of (span 0 0) s.log.fragments)
 last_log c s y ls d =
@@ -71,14 +71,14 @@ last_log c s y ls d =
     let some = log_some c s.header s.log d.logs in
     let (p0, p1) = all_front (Apart header_span) gs lf d.laid.body.apart.0 in
     let (p2, p3, p4) = pairs_split Apart gs lf d.laid.body.apart.1 in
-    let at : (P : Span → Type 0) → All P gs → P (last_of z gs) = λ P a. split_log (λ (w : List Span). All P w → P (last_of z w)) gs some (λ f fs i. last_all P z f fs i) a in
+    let at : (P : Span → Type 0) → AllByRecursion P gs → P (last_of z gs) = λ P a. split_log (λ (w : List Span). AllByRecursion P w → P (last_of z w)) gs some (λ f fs i. last_all P z f fs i) a in
     record {
       inside = at (Inside 12 s.header.end) k.inside;
-      others = ((λ i x y. at (Apart header_span) p0 i y x), at (λ x. All (Apart x) lf) p4);
-      contents = All-weaker (λ r. All (Apart r) (header_span ∷ (gs ++ lf))) (Apart (last_of z gs)) (λ r a i x y. at (Apart r) (all_front (Apart r) gs lf a.1).0 i y x) (data_spans ls) d.laid.body.data_apart;
+      others = ((λ i x y. at (Apart header_span) p0 i y x), at (λ x. AllByRecursion (Apart x) lf) p4);
+      contents = All-weaker (λ r. AllByRecursion (Apart r) (header_span ∷ (gs ++ lf))) (Apart (last_of z gs)) (λ r a i x y. at (Apart r) (all_front (Apart r) gs lf a.1).0 i y x) (data_spans ls) d.laid.body.data_apart;
     }
 
-log_done_fits : (c : List ℕ) (s : Section) (y : Layout) (ls : List NodeList) (guid : List ℕ) → Drafted c s y ls → Fine y → Follows s.log.transactions (count_entries y) → All Small (new_entries y)
+log_done_fits : (c : List ℕ) (s : Section) (y : Layout) (ls : List NodeList) (guid : List ℕ) → Drafted c s y ls → Fine y → Follows s.log.transactions (count_entries y) → AllByRecursion Small (new_entries y)
     → s.log.used + length (new_entries y) ≤ entries_in (last_of (span 0 0) s.log.fragments).size
     → LogDone c (written c (entry_place (last_of (span 0 0) s.log.fragments) s.log.used) (entry_bytes (new_entries y))) s y ls (headed s.header y.end guid)
 log_done_fits c s y ls guid d f w sm p =
@@ -104,7 +104,7 @@ log_done_fits c s y ls guid d f w sm p =
     let ag : LogAgree c c1 gs s.log.used = around_log c c1 E (span 0 0) gs s.log.used at o p2 e0 (omega arith) (omega arith) in
     let st : Stored c1 at new = stored_written c at new (omega arith) in
     let en : entries_of c1 g s.log.used (length (closed t)) ≡ closed t = entries_back c1 g s.log.used (closed t) sm st in
-    let kl : All (Kept c c1) lf = all_both (Apart g) (λ x. end_of x ≤ E) (Kept c c1) lf (λ x u v. other_same c c1 E g at 0 0 o x u v) a.others.1 e1 in
+    let kl : AllByRecursion (Kept c c1) lf = all_both (Apart g) (λ x. end_of x ≤ E) (Kept c c1) lf (λ x u v. other_same c c1 E g at 0 0 o x u v) a.others.1 e1 in
     record {
       log = record { fragments = gs; transactions = s.log.transactions ++ (t ∷ []); used = s.log.used + length (closed t) };
       transactions = refl;
@@ -119,12 +119,12 @@ log_done_fits c s y ls guid d f w sm p =
     }
 
 -- the lists beside one log fragment more, behind what there was
-body_log : (c : List ℕ) (h : Header) (e : ℕ) (gs : List Span) (ls : List NodeList) (x : Span) → Body c h gs ls → All (λ f. end_of f ≤ e) (header_span ∷ (gs ++ list_fragments ls))
-    → All (λ r. end_of r ≤ e) (data_spans ls) → e ≤ x.start → end_of x ≤ h.end → Body c h (gs ++ (x ∷ [])) ls
+body_log : (c : List ℕ) (h : Header) (e : ℕ) (gs : List Span) (ls : List NodeList) (x : Span) → Body c h gs ls → AllByRecursion (λ f. end_of f ≤ e) (header_span ∷ (gs ++ list_fragments ls))
+    → AllByRecursion (λ r. end_of r ≤ e) (data_spans ls) → e ≤ x.start → end_of x ≤ h.end → Body c h (gs ++ (x ∷ [])) ls
 body_log c h e gs ls x d a k l m =
     let lf : List Span = list_fragments ls in
     let q : header_span ∷ ((gs ++ (x ∷ [])) ++ lf) ≡ (header_span ∷ gs) ++ (x ∷ lf) = ap (λ z. header_span ∷ z) (append_assoc gs (x ∷ []) lf) in
-    let far : All (λ f. Apart f x) (header_span ∷ (gs ++ lf)) = All-weaker (λ f. end_of f ≤ e) (λ f. Apart f x) (λ f u. past_apart e x f l u) (header_span ∷ (gs ++ lf)) a in
+    let far : AllByRecursion (λ f. Apart f x) (header_span ∷ (gs ++ lf)) = All-weaker (λ f. end_of f ≤ e) (λ f. Apart f x) (λ f u. past_apart e x f l u) (header_span ∷ (gs ++ lf)) a in
     let (u, v) = all_front (λ f. Apart f x) (header_span ∷ gs) lf far in
     record {
       whole = d.whole;
@@ -134,13 +134,13 @@ body_log c h e gs ls x d a k l m =
       log_inside = All-append (λ f. end_of f ≤ h.end) gs (x ∷ []) d.log_inside (m, tt);
       apart = subst (λ z. Pairwise Apart z) (sym q) (pair_between Apart (header_span ∷ gs) x lf d.apart u (All-weaker (λ f. Apart f x) (Apart x) (λ f w i y z. w i z y) lf v));
       data_inside = d.data_inside;
-      data_apart = all_both (λ r. end_of r ≤ e) (λ r. All (Apart r) (header_span ∷ (gs ++ lf))) (λ r. All (Apart r) (header_span ∷ ((gs ++ (x ∷ [])) ++ lf))) (data_spans ls)
-          (λ r y z. subst (λ w. All (Apart r) w) (sym q) (all_between (Apart r) (header_span ∷ gs) x lf z (past_apart e x r l y))) k d.data_apart;
+      data_apart = all_both (λ r. end_of r ≤ e) (λ r. AllByRecursion (Apart r) (header_span ∷ (gs ++ lf))) (λ r. AllByRecursion (Apart r) (header_span ∷ ((gs ++ (x ∷ [])) ++ lf))) (data_spans ls)
+          (λ r y z. subst (λ w. AllByRecursion (Apart r) w) (sym q) (all_between (Apart r) (header_span ∷ gs) x lf z (past_apart e x r l y))) k d.data_apart;
     }
 
 -- three writes: the new fragment at the end, the old next reference, and the entries that fit, perhaps none
 log_done_spills : (c : List ℕ) (s : Section) (y : Layout) (ls : List NodeList) (guid : List ℕ) (fit rest : List Entry) → Drafted c s y ls → Fine y → Follows s.log.transactions (count_entries y)
-    → new_entries y ≡ fit ++ rest → All Small fit → All Small rest → s.log.used + length fit ≡ entries_in (last_of (span 0 0) s.log.fragments).size
+    → new_entries y ≡ fit ++ rest → AllByRecursion Small fit → AllByRecursion Small rest → s.log.used + length fit ≡ entries_in (last_of (span 0 0) s.log.fragments).size
     → 1 ≤ length rest → length rest ≤ 126 → y.fragments + 1 ≤ 2048
     → let g = last_of (span 0 0) s.log.fragments in
     let piece = at_end y (new_log_fragment rest) in
@@ -177,7 +177,7 @@ log_done_spills c s y ls guid fit rest d f w q sf sr p r1 r2 few =
     let la1 = length_written c E P wh in
     let la2 = length_written ca next ref (omega arith) in
     let la3 = length_written cb at new (omega arith) in
-    let by_end : All (λ x. end_of x ≤ E) (header_span ∷ (gs ++ lf)) = all_by_end c (up_to s.header E) gs ls d.laid.body in
+    let by_end : AllByRecursion (λ x. end_of x ≤ E) (header_span ∷ (gs ++ lf)) = all_by_end c (up_to s.header E) gs ls d.laid.body in
     let (e0, e1) = all_front (λ x. end_of x ≤ E) gs lf by_end.1 in
     let oa : Around c ca E g at 0 0 = around_past c c E g at 0 0 E P (omega arith) wh (around_none c E g at 0 0 (omega arith) wh) in
     let ob : Around c cb E g at 0 0 = around_in c ca E g at 0 0 next ref (omega arith) (omega arith) (omega arith) oa in
@@ -191,8 +191,8 @@ log_done_spills c s y ls guid fit rest d f w q sf sr p r1 r2 few =
     let en2 : span_at c1 next ≡ X = span_stored c1 next X (omega arith) (omega arith) sn in
     let z8 : E + 8 * 0 ≡ E = omega arith in
     let en3 : entries_of c1 X 0 (length rest) ≡ rest = entries_back c1 X 0 rest sr (subst (λ z. Stored c1 z (entry_bytes rest)) (sym z8) (log_fragment_back c1 E rest sc)) in
-    let kl : All (Kept c c1) lf = all_both (Apart g) (λ x. end_of x ≤ E) (Kept c c1) lf (λ x u v. other_same c c1 E g at 0 0 o x u v) a.others.1 e1 in
-    let far : All (λ x. Apart x X) (header_span ∷ gs) = All-weaker (λ x. end_of x ≤ E) (λ x. Apart x X) (λ x u. past_apart E X x (omega arith) u) (header_span ∷ gs) (by_end.0, e0) in
+    let kl : AllByRecursion (Kept c c1) lf = all_both (Apart g) (λ x. end_of x ≤ E) (Kept c c1) lf (λ x u v. other_same c c1 E g at 0 0 o x u v) a.others.1 e1 in
+    let far : AllByRecursion (λ x. Apart x X) (header_span ∷ gs) = All-weaker (λ x. end_of x ≤ E) (λ x. Apart x X) (λ x u. past_apart E X x (omega arith) u) (header_span ∷ gs) (by_end.0, e0) in
     let lg = length-append gs lf in
     let lx : length ((gs ++ (X ∷ [])) ++ lf) ≡ length (gs ++ lf) + 1 = length-append (gs ++ (X ∷ [])) lf ∙ omega (arith, length-append gs (X ∷ [])) in
     let df = d.laid.fragments in
@@ -226,7 +226,7 @@ fit_write b [] p = sym (write_none b p)
 fit_write b (e ∷ es) p = refl
 
 -- after the log's writes, whichever they are
-pub log_done : (c : List ℕ) (s : Section) (y : Layout) (ls : List NodeList) (guid : List ℕ) → Drafted c s y ls → Fine y → Follows s.log.transactions (count_entries y) → All Small (new_entries y)
+pub log_done : (c : List ℕ) (s : Section) (y : Layout) (ls : List NodeList) (guid : List ℕ) → Drafted c s y ls → Fine y → Follows s.log.transactions (count_entries y) → AllByRecursion Small (new_entries y)
     → length (new_entries y) ≤ 126 → (logged s y).fragments ≤ 2048
     → LogDone c (applied c (logged s y).writes) s y ls (headed s.header (logged s y).end guid)
 unfolding applied
@@ -236,7 +236,7 @@ log_done c s y ls guid d f w sm few k = elim (cases_Bool (ltb room (length es)))
       let v = length-drop room es in
       let b1 : room < length es = grind (arith, nat_tests) in
       let r : if_any (drop room es) news ≡ news = any_some (drop room es) news (omega arith) in
-      let (x0, x1) = all_front Small (take room es) (drop room es) (subst (λ z. All Small z) (sym (take-append-drop room es)) sm) in
+      let (x0, x1) = all_front Small (take room es) (drop room es) (subst (λ z. AllByRecursion Small z) (sym (take-append-drop room es)) sm) in
       let pl = d.logs.part.places in
       let k1 : y.fragments + 1 ≤ 2048 = rw m at k in
       rw (r, m) (subst (λ (z : List ℕ). LogDone c z s y ls (headed s.header (behind (at_end y (new_log_fragment (drop room es)))) guid)) (sym (fit_write _ (take room es) (entry_place g s.log.used)))

@@ -1,6 +1,6 @@
 -- A file with more behind its end: data, or a new list.
 use Rattle.std.proofs.Common.{◌≡◌, ℕ, ◌+◌, ◌^◌, ◌<◌, ◌≤◌, ◌≢◌, List, [], ◌∷◌, ◌++◌, map, length, sym, ap, ◌∙◌, subst, arith}
-use Rattle.std.specs.List.{AllByRecursion as All}
+use Rattle.std.specs.List.{AllByRecursion}
 use Rattle.std.proofs.lemmas.List.{append_assoc, append-nil, length-append}
 use Rattle.std.proofs.ByRecursion.{All-append, All-weaker}
 use Rattle.model.specs.declared.types.Span.{Span}
@@ -53,7 +53,7 @@ new_right b h id start new pad n m e r i s =
 
 -- the lists and a new one behind the end
 pub body_list : (b : List ℕ) (h : Header) (e : ℕ) (gs : List Span) (ls : List NodeList) (id : ℕ) (new pad : List ℕ) (n : ℕ → Node)
-    → Made new n → Body b h gs ls → h.end + 1024 + length pad ≡ e → 16 ≤ id → id < 2 ^ 32 → All (λ l. l.id ≢ id) ls → referring 1 (n (h.end + 16) ∷ []) ≡ []
+    → Made new n → Body b h gs ls → h.end + 1024 + length pad ≡ e → 16 ≤ id → id < 2 ^ 32 → AllByRecursion (λ l. l.id ≢ id) ls → referring 1 (n (h.end + 16) ∷ []) ≡ []
     → Body (written b h.end (new_fragment id 0 new ++ pad)) (up_to h e) gs (ls ++ (new_list id h.end (n (h.end + 16)) (h.end + 16 + length new) ∷ []))
 body_list b h e gs ls id new pad n m d k r i a w =
     let E = h.end in
@@ -65,13 +65,13 @@ body_list b h e gs ls id new pad n m d k r i a w =
     let s : Stored c E piece = stored_written b E piece d.whole in
     let f : Body c (up_to h e) gs ls = body_longer b h e gs ls piece d (omega arith) in
     let F : List Span = header_span ∷ (gs ++ list_fragments ls) in
-    let by_end : All (λ f. end_of f ≤ E) F = all_by_end b h gs ls d in
+    let by_end : AllByRecursion (λ f. end_of f ≤ E) F = all_by_end b h gs ls d in
     let x : header_span ∷ (gs ++ list_fragments (ls ++ (l ∷ []))) ≡ F ++ (fresh ∷ [])
     = ap (λ z. header_span ∷ z) (ap (λ z. gs ++ z) (flat_append (λ (m : NodeList). m.fragments) ls (l ∷ [])) ∙ sym (append_assoc gs (list_fragments ls) (fresh ∷ []))) in
     let y : data_spans (ls ++ (l ∷ [])) ≡ data_spans ls
     = flat_append (λ (l : NodeList). references l.nodes) ls (l ∷ []) ∙ ap (λ (z : List Node). data_spans ls ++ (map (λ m. m.reference) z ++ [])) w ∙ append-nil (data_spans ls) in
-    let both : All (λ r. (end_of r ≤ E) × All (Apart r) F) (data_spans ls)
-    = all_both (λ r. end_of r ≤ E) (λ r. All (Apart r) F) (λ r. (end_of r ≤ E) × All (Apart r) F) (data_spans ls) (λ r x y. (x, y)) d.data_inside d.data_apart in
+    let both : AllByRecursion (λ r. (end_of r ≤ E) × AllByRecursion (Apart r) F) (data_spans ls)
+    = all_both (λ r. end_of r ≤ E) (λ r. AllByRecursion (Apart r) F) (λ r. (end_of r ≤ E) × AllByRecursion (Apart r) F) (data_spans ls) (λ r x y. (x, y)) d.data_inside d.data_apart in
     record {
       whole = f.whole;
       least = f.least;
@@ -80,7 +80,7 @@ body_list b h e gs ls id new pad n m d k r i a w =
       log_inside = f.log_inside;
       apart = subst (λ z. Pairwise Apart z) (sym x) (pair_between Apart F fresh [] (subst (λ z. Pairwise Apart z) (sym (append-nil F)) d.apart)
           (All-weaker (λ f. end_of f ≤ E) (λ x. Apart x fresh) (λ x y. past_apart E fresh x (omega arith) y) F by_end) tt);
-      data_inside = subst (λ z. All (λ r. end_of r ≤ e) z) (sym y) f.data_inside;
-      data_apart = subst (λ z. All (λ r. All (Apart r) (header_span ∷ (gs ++ list_fragments (ls ++ (l ∷ []))))) z) (sym y)
-          (All-weaker (λ r. (end_of r ≤ E) × All (Apart r) F) (λ r. All (Apart r) (header_span ∷ (gs ++ list_fragments (ls ++ (l ∷ []))))) (λ r z. subst (λ v. All (Apart r) v) (sym x) (All-append (Apart r) F (fresh ∷ []) z.1 (past_apart E fresh r (omega arith) z.0, tt))) (data_spans ls) both);
+      data_inside = subst (λ z. AllByRecursion (λ r. end_of r ≤ e) z) (sym y) f.data_inside;
+      data_apart = subst (λ z. AllByRecursion (λ r. AllByRecursion (Apart r) (header_span ∷ (gs ++ list_fragments (ls ++ (l ∷ []))))) z) (sym y)
+          (All-weaker (λ r. (end_of r ≤ E) × AllByRecursion (Apart r) F) (λ r. AllByRecursion (Apart r) (header_span ∷ (gs ++ list_fragments (ls ++ (l ∷ []))))) (λ r z. subst (λ v. AllByRecursion (Apart r) v) (sym x) (All-append (Apart r) F (fresh ∷ []) z.1 (past_apart E fresh r (omega arith) z.0, tt))) (data_spans ls) both);
     }

@@ -1,6 +1,6 @@
 -- Over a commit each look to a count up to the old one answers as before.
 use Rattle.std.proofs.Common.{◌≡◌, ℕ, ◌+◌, ◌<◌, ◌≤◌, Bool, true, false, not, ◌||◌, eqb, ltb, leb, ◌⊎◌, List, [], ◌∷◌, ◌++◌, map, length, get_or, take, drop, sym, refl, ap, ◌∙◌, subst, inl, inr, arith}
-use Rattle.std.specs.List.{AllByRecursion as All}
+use Rattle.std.specs.List.{AllByRecursion}
 use Rattle.std.proofs.lemmas.List.{append_assoc, append-nil, length-append, length-map, take-append-le, take-append-drop, get_or-map, get_or_append_left}
 use Rattle.std.proofs.lemmas.Bool.{cases_Bool, cases_lt}
 use Rattle.std.proofs.lemmas.Bool.Decides.{nat_tests}
@@ -94,7 +94,7 @@ node_alike c b n n' k index m found found' x x' h u v w same =
     both false false z e = refl
 
 -- a node that is found at k in the old file is found at k after the commit
-read_alike : (b c : List ℕ) (s : Section) (adds : List Add) (guid : List ℕ) (k list index : ℕ) → (r : ReadAfter b c s adds guid) → Means b s → All (λ e. e.source ≤ (blank s).highest) (flat s.log.transactions)
+read_alike : (b c : List ℕ) (s : Section) (adds : List Add) (guid : List ℕ) (k list index : ℕ) → (r : ReadAfter b c s adds guid) → Means b s → AllByRecursion (λ e. e.source ≤ (blank s).highest) (flat s.log.transactions)
     → 1 ≤ k → k ≤ s.header.count
     → Alike c b (node_of (record { header = headed s.header (logged s (layout s adds)).end guid; log = r.log; lists = r.lists }) k list index) (node_of s k list index)
 read_alike b c s adds guid k list index r m sources low high =

@@ -1,6 +1,6 @@
 -- A list as far as it is right stays so, where no byte of it is written.
 use Rattle.std.proofs.Common.{◌≡◌, ℕ, ◌+◌, ◌-◌, ◌≤◌, List, [], ◌∷◌, sym, refl, ap, ◌∙◌, inl, inr, arith}
-use Rattle.std.specs.List.{AllByRecursion as All}
+use Rattle.std.specs.List.{AllByRecursion}
 use Rattle.model.specs.declared.types.Span.{Span}
 use Rattle.model.specs.declared.types.Header.{Header}
 use Rattle.model.specs.Bytes.{Same}
@@ -22,7 +22,7 @@ use Rattle.commits.proofs.Around.{Kept, other_same}
 abbrev pub EndsSame : List ℕ → List ℕ → Span → Type 0
 EndsSame b c f = Same b c f.start (f.start + 16) × Same b c (end_of f - 8) (end_of f)
 
-pub numbered_same : (b c : List ℕ) (end id i : ℕ) (fs : List Span) → All (Inside 36 end) fs → All (EndsSame b c) fs → Numbered b id i fs → Numbered c id i fs
+pub numbered_same : (b c : List ℕ) (end id i : ℕ) (fs : List Span) → AllByRecursion (Inside 36 end) fs → AllByRecursion (EndsSame b c) fs → Numbered b id i fs → Numbered c id i fs
 numbered_same b c end id i [] a k m = tt
 numbered_same b c end id i (f ∷ fs) ((x, y), a) ((s, t), k) (m, ms) = (
   record {
@@ -37,7 +37,7 @@ numbered_same b c end id i (f ∷ fs) ((x, y), a) ((s, t), k) (m, ms) = (
 pub kept_ends : (b c : List ℕ) (f : Span) → 36 ≤ f.size → Kept b c f → EndsSame b c f
 kept_ends b c f h s = (λ i l j. s i l (omega arith), λ i l j. s i (omega arith) j)
 
-ends_kept : (b c : List ℕ) (end : ℕ) (g : Span) (lo : ℕ) → Around b c end g lo 16 8 → (fs : List Span) (q : ℕ) → All (Inside 36 end) fs → Ahead g lo fs q → All (EndsSame b c) fs
+ends_kept : (b c : List ℕ) (end : ℕ) (g : Span) (lo : ℕ) → Around b c end g lo 16 8 → (fs : List Span) (q : ℕ) → AllByRecursion (Inside 36 end) fs → Ahead g lo fs q → AllByRecursion (EndsSame b c) fs
 ends_kept b c end g lo o [] q a h = tt
 ends_kept b c end g lo o (f ∷ []) q ((x, y), as') (inl (e, l)) =
     let from = o.from in
@@ -47,7 +47,7 @@ ends_kept b c end g lo o (f ∷ []) q ((x, y), as') (inl (e, l)) =
 ends_kept b c end g lo o (f ∷ []) q ((x, y), as') (inr h) = (kept_ends b c f x (other_same b c end g lo 16 8 o f h y), tt)
 ends_kept b c end g lo o (f ∷ (f' ∷ fs)) q ((x, y), as') (h, hs) = (kept_ends b c f x (other_same b c end g lo 16 8 o f h y), ends_kept b c end g lo o (f' ∷ fs) q as' hs)
 
-agree_kept : (b c : List ℕ) (end : ℕ) (g : Span) (lo : ℕ) → Around b c end g lo 16 8 → (fs : List Span) (q : ℕ) → All (Inside 36 end) fs → q ≤ end_of (last_of (span 0 0) fs) → Ahead g lo fs q → Agree b c fs q
+agree_kept : (b c : List ℕ) (end : ℕ) (g : Span) (lo : ℕ) → Around b c end g lo 16 8 → (fs : List Span) (q : ℕ) → AllByRecursion (Inside 36 end) fs → q ≤ end_of (last_of (span 0 0) fs) → Ahead g lo fs q → Agree b c fs q
 agree_kept b c end g lo o [] q a u h = tt
 agree_kept b c end g lo o (f ∷ []) q ((x, y), as') u (inl (e, l)) =
     ((λ i m k. o.kept i (omega arith) (inl (omega arith))), omega (arith, o.before), omega (arith, o.after))
@@ -59,13 +59,13 @@ agree_kept b c end g lo o (f ∷ (f' ∷ fs)) q ((x, y), as') u (h, hs) =
     ((s, omega (arith, o.before), omega (arith, o.after), x), agree_kept b c end g lo o (f' ∷ fs) q as' u hs)
 
 -- where the nodes of a chain end
-pub spread_ends : (b : List ℕ) (end : ℕ) (d : Span) {fs : List Span} {ns : List Node} {q : ℕ} → Spread b fs ns q → All (Inside 36 end) fs
+pub spread_ends : (b : List ℕ) (end : ℕ) (d : Span) {fs : List Span} {ns : List Node} {q : ℕ} → Spread b fs ns q → AllByRecursion (Inside 36 end) fs
     → (nodes_from (last_of d fs) ≤ q) × (q ≤ nodes_to (last_of d fs)) × (36 ≤ (last_of d fs).size) × (end_of (last_of d fs) ≤ end)
 spread_ends b end d (within {f = f} {ns = ns} {q = q} h) ((x, y), as') =
     (nodes_reach b (nodes_to f) (nodes_from f) ns q h, nodes_inside b (nodes_to f) (nodes_from f) ns q (omega arith) h, x, y)
 spread_ends b end d (across {f = f} {g = g} {gs = gs} ns ms p h o e t u) (x, as') = spread_ends b end f t as'
 
-pub inside_more : (end end' : ℕ) (fs : List Span) → end ≤ end' → All (Inside 36 end) fs → All (Inside 36 end') fs
+pub inside_more : (end end' : ℕ) (fs : List Span) → end ≤ end' → AllByRecursion (Inside 36 end) fs → AllByRecursion (Inside 36 end') fs
 inside_more end end' [] h a = tt
 inside_more end end' (f ∷ fs) h ((x, y), a) = ((x, omega arith), inside_more end end' fs h a)
 
@@ -83,7 +83,7 @@ part_kept b c h h' g lo id fs ns q o k a p =
 
 -- which fragments have none of the bytes -----------------------------------------------------------------------------------
 
-pub ahead_other : (g : Span) (lo : ℕ) (fs : List Span) (q : ℕ) → All (Apart g) fs → Ahead g lo fs q
+pub ahead_other : (g : Span) (lo : ℕ) (fs : List Span) (q : ℕ) → AllByRecursion (Apart g) fs → Ahead g lo fs q
 ahead_other g lo [] q a = tt
 ahead_other g lo (f ∷ []) q (x, a) = inr x
 ahead_other g lo (f ∷ (f' ∷ fs)) q (x, a) = (x, ahead_other g lo (f' ∷ fs) q a)

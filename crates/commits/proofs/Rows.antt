@@ -1,21 +1,21 @@
 -- Lists in a row: what holds of each, and of each two, and one element put between.
 use Rattle.std.proofs.Common.{◌≡◌, List, [], ◌∷◌, ◌++◌, map, ap}
-use Rattle.std.specs.List.{AllByRecursion as All}
+use Rattle.std.specs.List.{AllByRecursion}
 use Rattle.std.proofs.ByRecursion.{All-append, All-weaker}
 use Rattle.model.specs.Section.{flat}
 use Rattle.model.specs.Means.{Pairwise}
 use Rattle.meaning.proofs.Base.{all_front}
 
-pub all_between : {A : Type 0} (P : A → Type 0) (xs : List A) (z : A) (ys : List A) → All P (xs ++ ys) → P z → All P (xs ++ (z ∷ ys))
+pub all_between : {A : Type 0} (P : A → Type 0) (xs : List A) (z : A) (ys : List A) → AllByRecursion P (xs ++ ys) → P z → AllByRecursion P (xs ++ (z ∷ ys))
 all_between P [] z ys a p = (p, a)
 all_between P (x ∷ xs) z ys (q, a) p = (q, all_between P xs z ys a p)
 
 -- two that hold of each
-pub all_both : {A : Type 0} (P Q R : A → Type 0) (xs : List A) → ((x : A) → P x → Q x → R x) → All P xs → All Q xs → All R xs
+pub all_both : {A : Type 0} (P Q R : A → Type 0) (xs : List A) → ((x : A) → P x → Q x → R x) → AllByRecursion P xs → AllByRecursion Q xs → AllByRecursion R xs
 all_both P Q R [] f a c = tt
 all_both P Q R (x ∷ xs) f (p, a) (q, c) = (f x p q, all_both P Q R xs f a c)
 
-pub pair_between : {A : Type 0} (R : A → A → Type 0) (xs : List A) (z : A) (ys : List A) → Pairwise R (xs ++ ys) → All (λ x. R x z) xs → All (R z) ys → Pairwise R (xs ++ (z ∷ ys))
+pub pair_between : {A : Type 0} (R : A → A → Type 0) (xs : List A) (z : A) (ys : List A) → Pairwise R (xs ++ ys) → AllByRecursion (λ x. R x z) xs → AllByRecursion (R z) ys → Pairwise R (xs ++ (z ∷ ys))
 pair_between R [] z ys p a c = (c, p)
 pair_between R (x ∷ xs) z ys (u, p) (v, a) c = (all_between (R x) xs z ys u v, pair_between R xs z ys p a c)
 

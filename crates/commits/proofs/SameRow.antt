@@ -1,6 +1,6 @@
 -- The lists, the log and the header stand in another row that has their bytes.
 use Rattle.std.proofs.Common.{◌≡◌, ℕ, ◌+◌, ◌≤◌, List, [], ◌∷◌, length, take, sym, ◌∙◌, arith}
-use Rattle.std.specs.List.{AllByRecursion as All}
+use Rattle.std.specs.List.{AllByRecursion}
 use Rattle.std.proofs.lemmas.List.{ext_get_or, length-take, get_or-take}
 use Rattle.std.proofs.ByRecursion.{All-weaker}
 use Rattle.model.specs.declared.types.Span.{Span}
@@ -21,12 +21,12 @@ use Rattle.commits.proofs.PartKept.{EndsSame, numbered_same, kept_ends, spread_e
 use Rattle.commits.proofs.LogAdded.{LogAgree, row_local, chain_local, next_inside}
 use Rattle.commits.proofs.Around.{Kept}
 
-agree_same : (b c : List ℕ) (end : ℕ) (fs : List Span) (q : ℕ) → All (Inside 36 end) fs → All (Kept b c) fs → q ≤ end_of (last_of (span 0 0) fs) → end ≤ length b → end ≤ length c → Agree b c fs q
+agree_same : (b c : List ℕ) (end : ℕ) (fs : List Span) (q : ℕ) → AllByRecursion (Inside 36 end) fs → AllByRecursion (Kept b c) fs → q ≤ end_of (last_of (span 0 0) fs) → end ≤ length b → end ≤ length c → Agree b c fs q
 agree_same b c end [] q a k u x y = tt
 agree_same b c end (f ∷ []) q ((v, w), a) (s, k) u x y = ((λ j l h. s j l (omega arith)), omega arith, omega arith)
 agree_same b c end (f ∷ (g ∷ gs)) q ((v, w), a) (s, k) u x y = ((s, omega arith, omega arith, v), agree_same b c end (g ∷ gs) q a k u x y)
 
-right_same : (b c : List ℕ) (h h' : Header) (l : NodeList) → h.end ≤ length b → h.end ≤ length c → h.end ≤ h'.end → All (Kept b c) l.fragments → Right b h l → Right c h' l
+right_same : (b c : List ℕ) (h h' : Header) (l : NodeList) → h.end ≤ length b → h.end ≤ length c → h.end ≤ h'.end → AllByRecursion (Kept b c) l.fragments → Right b h l → Right c h' l
 right_same b c h h' l x y z k r =
     let p = r.part in
     let (u, v, w, t) = spread_ends b h.end (span 0 0) p.spread p.inside in
@@ -42,13 +42,13 @@ right_same b c h h' l x y z k r =
     }
 
 -- the lists' fragments are the same
-pub body_same : (b c : List ℕ) (h h' : Header) (gs : List Span) (ls : List NodeList) → Body b h gs ls → h.end ≤ h'.end → h'.end ≤ length c → All (Kept b c) (list_fragments ls) → Body c h' gs ls
+pub body_same : (b c : List ℕ) (h h' : Header) (gs : List Span) (ls : List NodeList) → Body b h gs ls → h.end ≤ h'.end → h'.end ≤ length c → AllByRecursion (Kept b c) (list_fragments ls) → Body c h' gs ls
 body_same b c h h' gs ls d x y k =
     let bl = d.whole in
     record {
       whole = y;
       least = omega (arith, d.least);
-      lists = all_both (λ l. All (Kept b c) l.fragments) (Right b h) (Right c h') ls (λ l u v. right_same b c h h' l bl (omega arith) x u v) (all_flat (Kept b c) (λ (m : NodeList). m.fragments) ls k) d.lists;
+      lists = all_both (λ l. AllByRecursion (Kept b c) l.fragments) (Right b h) (Right c h') ls (λ l u v. right_same b c h h' l bl (omega arith) x u v) (all_flat (Kept b c) (λ (m : NodeList). m.fragments) ls k) d.lists;
       ids_differ = d.ids_differ;
       log_inside = All-weaker (λ f. end_of f ≤ h.end) (λ f. end_of f ≤ h'.end) (λ f u. omega arith) gs d.log_inside;
       apart = d.apart;
@@ -56,7 +56,7 @@ body_same b c h h' gs ls d x y k =
       data_apart = d.data_apart;
     }
 
-kept_agree : (b c : List ℕ) (end : ℕ) (fs : List Span) (used : ℕ) → All (Inside 12 end) fs → All (Kept b c) fs → used ≤ entries_in (last_of (span 0 0) fs).size → LogAgree b c fs used
+kept_agree : (b c : List ℕ) (end : ℕ) (fs : List Span) (used : ℕ) → AllByRecursion (Inside 12 end) fs → AllByRecursion (Kept b c) fs → used ≤ entries_in (last_of (span 0 0) fs).size → LogAgree b c fs used
 kept_agree b c end [] used i k u = tt
 kept_agree b c end (f ∷ []) used ((x, y), i) (s, k) u = let n = next_inside f x in λ j l h. s j l (omega arith)
 kept_agree b c end (f ∷ (g ∷ gs)) used ((x, y), i) (s, k) u = (s, kept_agree b c end (g ∷ gs) used i k u)
@@ -81,7 +81,7 @@ logs_agree b c h l a g =
       ends = g.ends;
     }
 
-pub logs_same : (b c : List ℕ) (h : Header) (l : Log) → All (Kept b c) l.fragments → Logs b h l → Logs c h l
+pub logs_same : (b c : List ℕ) (h : Header) (l : Log) → AllByRecursion (Kept b c) l.fragments → Logs b h l → Logs c h l
 logs_same b c h l k g = logs_agree b c h l (kept_agree b c h.end l.fragments l.used g.part.inside k g.part.places) g
 
 -- the header's bytes are the same

@@ -1,7 +1,7 @@
 -- A sentinel's number takes 4 bytes.
 use Rattle.std.proofs.Common.{ℕ, zero, suc, ◌/◌, ◌%◌, ◌^◌, ◌<◌, eqb, List, [], ◌∷◌, ◌++◌, inl, inr, arith}
 use lib.Bits.{bit_xor, xor_lt}
-use Rattle.std.specs.List.{AllByRecursion as All}
+use Rattle.std.specs.List.{AllByRecursion}
 use Rattle.std.proofs.lemmas.Bool.{cases_Bool}
 use Rattle.std.proofs.ByRecursion.{All-append}
 use Rattle.model.specs.declared.types.Entry.{Entry}
@@ -46,5 +46,5 @@ pub sentinel_small : (es : List Entry) → (sentinel es).number < 2 ^ 32
 sentinel_small es = crc_small (entry_bytes es) (entries_bytes es)
 
 -- a transaction with its sentinel
-pub closed_small : (t : List Entry) → All Small t → All Small (closed t)
+pub closed_small : (t : List Entry) → AllByRecursion Small t → AllByRecursion Small (closed t)
 closed_small t a = All-append Small t (sentinel t ∷ []) a ((omega arith, sentinel_small t), tt)

@@ -1,6 +1,6 @@
 -- The lists of a file with a draft in it: what Means says of them, but for the counts, for bytes that a draft has grown.
 use Rattle.std.specs.Prelude.{◌≡◌, ℕ, ◌<◌, ◌≤◌, ◌≢◌, List, [], ◌∷◌, ◌++◌, map, length}
-use Rattle.std.specs.List.{ContainsAt as Has, AllByRecursion as All}
+use Rattle.std.specs.List.{ContainsAt, AllByRecursion}
 use Rattle.model.specs.declared.types.Span.{Span}
 use Rattle.model.specs.declared.types.Header.{Header}
 use Rattle.model.specs.References.{end_of}
@@ -20,17 +20,17 @@ pub record Right (b : List ℕ) (h : Header) (l : NodeList) : Type 0 where
 pub record Body (b : List ℕ) (h : Header) (gs : List Span) (ls : List NodeList) : Type 0 where
   pub whole : h.end ≤ length b
   pub least : 1024 ≤ h.end
-  pub lists : All (Right b h) ls
+  pub lists : AllByRecursion (Right b h) ls
   pub ids_differ : Pairwise (λ l m. l.id ≢ m.id) ls
-  pub log_inside : All (λ f. end_of f ≤ h.end) gs
+  pub log_inside : AllByRecursion (λ f. end_of f ≤ h.end) gs
   pub apart : Pairwise Apart (header_span ∷ (gs ++ list_fragments ls))
-  pub data_inside : All (λ r. end_of r ≤ h.end) (data_spans ls)
-  pub data_apart : All (λ r. All (Apart r) (header_span ∷ (gs ++ list_fragments ls))) (data_spans ls)
+  pub data_inside : AllByRecursion (λ r. end_of r ≤ h.end) (data_spans ls)
+  pub data_apart : AllByRecursion (λ r. AllByRecursion (Apart r) (header_span ∷ (gs ++ list_fragments ls))) (data_spans ls)
 
 -- the lists are the reached ones, and each is named once; no bytes
 pub record Tied (h : Header) (ls : List NodeList) : Type 0 where
-  pub reached : All (λ l. Reached h ls (first_of l)) ls
-  pub named : All (λ q. Has (map first_of ls) q.1) (named_in h ls)
+  pub reached : AllByRecursion (λ l. Reached h ls (first_of l)) ls
+  pub named : AllByRecursion (λ q. ContainsAt (map first_of ls) q.1) (named_in h ls)
   pub once : length (named_in h ls) ≡ length ls
 
 -- a list with one node more, at its end, in its last fragment or in a new one

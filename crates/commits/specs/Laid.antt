@@ -1,6 +1,6 @@
 -- A layout and the lists that it stands for.
 use Rattle.std.specs.Prelude.{◌≡◌, ℕ, ◌≤◌, List, ◌++◌, map, length}
-use Rattle.std.specs.List.{AllByRecursion as All}
+use Rattle.std.specs.List.{AllByRecursion}
 use Rattle.model.specs.Section.{NodeList, Section, list_fragments}
 use Rattle.model.specs.Layouts.{Layout, tail_of}
 use Rattle.commits.specs.Body.{Body, up_to}
@@ -11,4 +11,4 @@ pub record Laid (c : List ℕ) (s : Section) (y : Layout) (ls : List NodeList) :
   pub tails : y.tails ≡ map tail_of ls
   pub lists : y.lists ≡ length ls
   pub fragments : y.fragments ≡ length (s.log.fragments ++ list_fragments ls)
-  pub known : All (λ l. l.id ≤ y.highest) ls
+  pub known : AllByRecursion (λ l. l.id ≤ y.highest) ls

@@ -1,6 +1,6 @@
 -- The data of one list after the other.
 use Rattle.std.proofs.Common.{◌≡◌, ℕ, ◌+◌, ◌<◌, ◌≤◌, List, [], ◌∷◌, ◌++◌, map, length, get_or, IsErrAnd, Some, None, Ok, Err, Result, sym, refl, ap, ◌∙◌, subst, add-zero, arith}
-use Rattle.std.specs.List.{AllByRecursion as All}
+use Rattle.std.specs.List.{AllByRecursion}
 use Rattle.std.proofs.lemmas.List.{append_assoc, append-nil, length-append}
 use Rattle.model.specs.declared.types.Span.{Span}
 use Rattle.model.specs.declared.types.Header.{Header}
@@ -32,7 +32,7 @@ row_at at (m ∷ ms) l ls d =
 
 -- the list behind ms: its row is the next, and its fragments stand where the row says
 lies_next : (b : List ℕ) (h : Header) (log : Log) (ms : List NodeList) (l : NodeList) (ls : List NodeList) (rows : List Row) (all : List Span) (row : Row)
-    → All (Stands b h log) (ms ++ (l ∷ ls)) → Filed log (ms ++ (l ∷ ls)) rows all → row ≡ get_or rows (length ms) row → Lies b h.end row all l
+    → AllByRecursion (Stands b h log) (ms ++ (l ∷ ls)) → Filed log (ms ++ (l ∷ ls)) rows all → row ≡ get_or rows (length ms) row → Lies b h.end row all l
 lies_next b h log ms l ls rows all row stands filed e =
     let s : Stands b h log l = (all_front (Stands b h log) ms (l ∷ ls) stands).1.0 in
     let first : length log.fragments + length (list_fragments ms) ≡ length (log.fragments ++ list_fragments ms) = sym (length-append log.fragments (list_fragments ms)) in
@@ -54,16 +54,16 @@ record Next (b : List ℕ) (end : ℕ) (row : Row) (all : List Span) (rest : Lis
   lies : Lies b end row all list
 
 next_with : (b : List ℕ) (h : Header) (log : Log) (ms rest : List NodeList) (rows : List Row) (all : List Span) (row : Row)
-    → All (Stands b h log) (ms ++ rest) → Filed log (ms ++ rest) rows all → length ms < length rows → row ≡ get_or rows (length ms) row → Next b h.end row all rest
+    → AllByRecursion (Stands b h log) (ms ++ rest) → Filed log (ms ++ rest) rows all → length ms < length rows → row ≡ get_or rows (length ms) row → Next b h.end row all rest
 next_with b h log ms [] rows all row stands filed lt e =
     absurd (omega (arith, ap length filed.rows_are, rows_length (length log.fragments) (ms ++ []), length-append ms []))
 next_with b h log ms (l ∷ ls) rows all row stands filed lt e =
     record { list = l; behind = ls; is = refl; lies = lies_next b h log ms l ls rows all row stands filed e }
 
-next_list : (b : List ℕ) (h : Header) (log : Log) (ls : List NodeList) (rows : List Row) (all : List Span) (k : ℕ) (row : Row) → All (Stands b h log) ls → Filed log ls rows all
+next_list : (b : List ℕ) (h : Header) (log : Log) (ls : List NodeList) (rows : List Row) (all : List Span) (k : ℕ) (row : Row) → AllByRecursion (Stands b h log) ls → Filed log ls rows all
     → (s : Seen h.end all ls k) → k < length rows → row ≡ get_or rows k row → Next b h.end row all s.rest
 next_list b h log ls rows all k row stands filed s lt e =
-    next_with b h log s.passed s.rest rows all row (subst (λ xs. All (Stands b h log) xs) s.whole stands) (subst (λ xs. Filed log xs rows all) s.whole filed)
+    next_with b h log s.passed s.rest rows all row (subst (λ xs. AllByRecursion (Stands b h log) xs) s.whole stands) (subst (λ xs. Filed log xs rows all) s.whole filed)
     (omega (arith, s.number)) (e ∙ ap (λ i. get_or rows i row) s.number)
 
 pub seen_none : (end : ℕ) (all : List Span) (ls : List NodeList) → Seen end all ls 0

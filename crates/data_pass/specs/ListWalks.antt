@@ -1,6 +1,6 @@
 -- The data references of a list's nodes, read again fragment by fragment, and those of all lists.
 use Rattle.std.specs.Prelude.{◌≡◌, ℕ, List, [], ◌∷◌, ◌++◌, map, length, drop, None}
-use Rattle.std.specs.List.{AllByRecursion as All}
+use Rattle.std.specs.List.{AllByRecursion}
 use Rattle.model.specs.declared.types.Span.{Span}
 use Rattle.model.specs.Faults.{Check}
 use Rattle.model.specs.Nodes.{Node, referring}
@@ -17,7 +17,7 @@ pub record Lies (b : List ℕ) (end : ℕ) (row : Row) (all : List Span) (l : No
   pub after : List Span
   pub row_is : row ≡ row_of (length before) l
   pub fragments_are : all ≡ before ++ (l.fragments ++ after)
-  pub inside : All (Inside 36 end) l.fragments
+  pub inside : AllByRecursion (Inside 36 end) l.fragments
   pub spread : Spread b l.fragments l.nodes l.free
 
 -- the nodes of the fragments that are left, none behind the last

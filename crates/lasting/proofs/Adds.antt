@@ -1,6 +1,6 @@
 -- One add over an accepted file: it keeps what is known of a draft's layout, and writes to the free zone only.
 use Rattle.std.proofs.Common.{◌≡◌, ℕ, ◌+◌, ◌<◌, ◌≤◌, true, cond, eqb, leb, List, [], ◌∷◌, ◌++◌, map, length, refl, ap, ◌∙◌, inl, inr, arith}
-use Rattle.std.specs.List.{AllByRecursion as All}
+use Rattle.std.specs.List.{AllByRecursion}
 use Rattle.std.proofs.lemmas.Bool.{cases_Bool, cond_both, leb-true}
 use Rattle.std.proofs.lemmas.Bool.Decides.{nat_tests}
 use Rattle.std.proofs.ByRecursion.{All-append, All-weaker}
@@ -39,7 +39,7 @@ pub record TailHeld (s : Section) (end : ℕ) (t : Tail) : Type 0 where
 
 pub record DraftHeld (s : Section) (y : Layout) : Type 0 where
   pub end : s.header.end ≤ y.end
-  pub tails : All (TailHeld s y.end) y.tails
+  pub tails : AllByRecursion (TailHeld s y.end) y.tails
 
 -- a plan keeps it, and writes to the free zone
 pub record Kept (s : Section) (y : Layout) (p : Plan) : Type 0 where
@@ -48,7 +48,7 @@ pub record Kept (s : Section) (y : Layout) (p : Plan) : Type 0 where
 
 -- ---- tails
 
-find_held : (P : Tail → Type 0) (ts : List Tail) (id : ℕ) → All P ts → member id (map (λ t. t.id) ts) ≡ true → P (find_tail ts id)
+find_held : (P : Tail → Type 0) (ts : List Tail) (id : ℕ) → AllByRecursion P ts → member id (map (λ t. t.id) ts) ≡ true → P (find_tail ts id)
 unfolding find_tail
 find_held P [] id a m = absurd (grind arith)
 find_held P (t ∷ ts) id a m = cond_both (eqb t.id id) t (find_tail ts id) P (λ e. a.0) (λ e. find_held P ts id a.1 (grind (arith, nat_tests)))
@@ -61,7 +61,7 @@ member_append id (t ∷ ts) us m = elim (cases_Bool (eqb t.id id)) [
 ]
 
 -- at a later end
-tails_later : (s : Section) (a b : ℕ) (ts : List Tail) → a ≤ b → All (TailHeld s a) ts → All (TailHeld s b) ts
+tails_later : (s : Section) (a b : ℕ) (ts : List Tail) → a ≤ b → AllByRecursion (TailHeld s a) ts → AllByRecursion (TailHeld s b) ts
 tails_later s a b ts h x =
     All-weaker (TailHeld s a) (TailHeld s b) (λ t y. record { grown = y.grown; size = y.size; to = omega arith; free_from = y.free_from; free_to = y.free_to }) ts x
 

@@ -1,6 +1,6 @@
 -- The footprint of an accepted file and its free zone share no byte.
 use Rattle.std.proofs.Common.{◌≡◌, ℕ, ◌+◌, ◌*◌, ◌<◌, ◌≤◌, ◌⊎◌, List, [], ◌∷◌, sym, ◌∙◌, subst, inl, inr, arith}
-use Rattle.std.specs.List.{AllByRecursion as All}
+use Rattle.std.specs.List.{AllByRecursion}
 use Rattle.model.specs.declared.types.Span.{Span}
 use Rattle.model.specs.References.{end_of}
 use Rattle.model.specs.Headers.{header_span}
@@ -15,7 +15,7 @@ use Rattle.lasting.proofs.Places.{meant, in_fragments, list_inside, log_inside, 
 -- ---- fragments that are apart
 
 cross_in : (fs gs : List Span) (f g : Span) → Cross Apart fs gs → In f fs → In g gs → Apart f g
-cross_in fs gs f g c i j = all_in (Apart f) gs g (all_in (λ (x : Span). All (Apart x) gs) fs f c i) j
+cross_in fs gs f g c i j = all_in (Apart f) gs g (all_in (λ (x : Span). AllByRecursion (Apart x) gs) fs f c i) j
 
 -- a place is in the fragments of one list only
 not_later : (n : NodeList) (ns : List NodeList) (k : NodeList) (f g : Span) (i : ℕ) → Pairwise Apart (list_fragments (n ∷ ns)) → In k ns
@@ -78,7 +78,7 @@ module _ {b : List ℕ} {s : Section} (m : Means b s) where
 
   not_in_data : (g r : Span) (i : ℕ) → In g (fragments_of s) → Within g i → In r (data_spans s.lists) → Within r i → ⊥
   not_in_data g r i j x k y =
-      all_in (Apart r) (fragments_of s) g (all_in (λ (r : Span). All (Apart r) (header_span ∷ fragments_of s)) (data_spans s.lists) r m.data_apart k).1 j i y x
+      all_in (Apart r) (fragments_of s) g (all_in (λ (r : Span). AllByRecursion (Apart r) (header_span ∷ fragments_of s)) (data_spans s.lists) r m.data_apart k).1 j i y x
 
   -- a log fragment and one of a list
   not_both : (l : NodeList) (f g : Span) (i : ℕ) → In f s.log.fragments → In l s.lists → In g l.fragments → Within f i → Within g i → ⊥

@@ -1,6 +1,6 @@
 -- The write of the first 512 bytes: it has 512 bytes, at the place 0.
 use Rattle.std.proofs.Common.{◌≡◌, ℕ, ◌+◌, ◌<◌, ◌≤◌, List, [], ◌∷◌, length, take, refl}
-use Rattle.std.specs.List.{AllByRecursion as All}
+use Rattle.std.specs.List.{AllByRecursion}
 use Rattle.std.proofs.ByRecursion.{All-take}
 use Rattle.model.specs.declared.types.Header.{Header}
 use Rattle.model.specs.Bytes.{digits, Write, put, Bytes}
@@ -22,7 +22,7 @@ module _ (b : List ℕ) (h : Header) (end : ℕ) (guid : List ℕ) where
 
   pub header_bytes : Bytes b → Bytes guid → Bytes (header_write b h end guid).new
   header_bytes x y =
-      let each : All (λ w. Bytes w.new) changes = (digits_bytes 4 (h.count + 1), (digits_bytes 8 end, (y, (digits_bytes 8 (h.generation + 1), tt)))) in
+      let each : AllByRecursion (λ w. Bytes w.new) changes = (digits_bytes 4 (h.count + 1), (digits_bytes 8 end, (y, (digits_bytes 8 (h.generation + 1), tt)))) in
       applied_bytes (take 512 b) changes (All-take (λ n. n < 256) 512 b x) each
 
   pub writes_header : 1024 ≤ length b → length guid ≡ 16 → WritesHeader (header_write b h end guid)

@@ -1,6 +1,6 @@
 -- What writes leave of a row: its length, the bytes outside them, and that it stays a row of bytes.
 use Rattle.std.proofs.Common.{◌≡◌, ℕ, ◌+◌, ◌<◌, ◌≤◌, max, ◌⊎◌, List, [], ◌∷◌, ◌++◌, length, get_or, take, drop, refl, ap, ◌∙◌, inl, inr, arith}
-use Rattle.std.specs.List.{AllByRecursion as All}
+use Rattle.std.specs.List.{AllByRecursion}
 use Rattle.std.proofs.ByRecursion.{All-append, All-take, All-drop}
 use Rattle.model.specs.Bytes.{Write, written, applied, behind, Bytes}
 use Rattle.model.specs.Laws.{Taken}
@@ -52,14 +52,14 @@ length_applied b ceiling (w ∷ ws) t =
     let l = length_written b w.place w.new t.0 in
     length_applied (written b w.place w.new) ceiling ws (rw l t.2) ∙ ap (λ n. length_after n ws) l
 
-pub applied_outside : (b : List ℕ) (ceiling : ℕ) (ws : List Write) (i : ℕ) → Taken (length b) ceiling ws → All (Outside i) ws → get_or (applied b ws) i 0 ≡ get_or b i 0
+pub applied_outside : (b : List ℕ) (ceiling : ℕ) (ws : List Write) (i : ℕ) → Taken (length b) ceiling ws → AllByRecursion (Outside i) ws → get_or (applied b ws) i 0 ≡ get_or b i 0
 unfolding applied
 applied_outside b ceiling [] i t o = refl
 applied_outside b ceiling (w ∷ ws) i t o =
     let l = length_written b w.place w.new t.0 in
     applied_outside (written b w.place w.new) ceiling ws i (rw l t.2) o.1 ∙ written_outside b w i t.0 o.0
 
-pub applied_bytes : (b : List ℕ) (ws : List Write) → Bytes b → All (λ w. Bytes w.new) ws → Bytes (applied b ws)
+pub applied_bytes : (b : List ℕ) (ws : List Write) → Bytes b → AllByRecursion (λ w. Bytes w.new) ws → Bytes (applied b ws)
 unfolding applied
 applied_bytes b [] h k = h
 applied_bytes b (w ∷ ws) h k = applied_bytes (written b w.place w.new) ws (written_bytes b w.place w.new h k.0) k.1

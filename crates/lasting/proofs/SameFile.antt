@@ -1,6 +1,6 @@
 -- A row that has the bytes of an accepted file, on its footprint, opens as that file.
 use Rattle.std.proofs.Common.{◌≡◌, ℕ, ◌+◌, ◌-◌, ◌*◌, ◌≤◌, List, [], ◌∷◌, length, get_or, sym, arith}
-use Rattle.std.specs.List.{AllByRecursion as All}
+use Rattle.std.specs.List.{AllByRecursion}
 use Rattle.model.specs.declared.types.Span.{Span}
 use Rattle.model.specs.Bytes.{Same}
 use Rattle.model.specs.Faults.{done}
@@ -22,22 +22,22 @@ use Rattle.lasting.proofs.Places.{ListEnd, list_end}
 module _ (b c : List ℕ) where
   -- ---- log
 
-  log_agree : (fs : List Span) (used : ℕ) → All (Kept b c) (but_last fs) → Same b c (last_fragment fs).start ((last_fragment fs).start + 8 * used) → LogAgree b c fs used
+  log_agree : (fs : List Span) (used : ℕ) → AllByRecursion (Kept b c) (but_last fs) → Same b c (last_fragment fs).start ((last_fragment fs).start + 8 * used) → LogAgree b c fs used
   log_agree [] used a s = tt
   log_agree (f ∷ []) used a s = s
   log_agree (f ∷ (g ∷ gs)) used a s = (a.0, log_agree (g ∷ gs) used a.1 s)
 
   -- ---- lists
 
-  ends_on : (end : ℕ) (fs : List Span) → All (Inside 36 end) fs → All (Kept b c) (but_last fs)
-      → Same b c (last_fragment fs).start ((last_fragment fs).start + 16) → Kept b c (span (end_of (last_fragment fs) - 8) 8) → All (EndsSame b c) fs
+  ends_on : (end : ℕ) (fs : List Span) → AllByRecursion (Inside 36 end) fs → AllByRecursion (Kept b c) (but_last fs)
+      → Same b c (last_fragment fs).start ((last_fragment fs).start + 16) → Kept b c (span (end_of (last_fragment fs) - 8) 8) → AllByRecursion (EndsSame b c) fs
   ends_on end [] n a s t = tt
   ends_on end (f ∷ []) n a s t =
       let k : 36 ≤ f.size = n.0.0 in
       ((s, λ j x y. t j x (omega arith)), tt)
   ends_on end (f ∷ (g ∷ gs)) n a s t = (kept_ends b c f n.0.0 a.0, ends_on end (g ∷ gs) n.1 a.1 s t)
 
-  agree_on : (end : ℕ) (fs : List Span) (q : ℕ) → end ≤ length b → end ≤ length c → All (Inside 36 end) fs → All (Kept b c) (but_last fs)
+  agree_on : (end : ℕ) (fs : List Span) (q : ℕ) → end ≤ length b → end ≤ length c → AllByRecursion (Inside 36 end) fs → AllByRecursion (Kept b c) (but_last fs)
       → Same b c (last_fragment fs).start q → q ≤ end → Agree b c fs q
   agree_on end [] q x y i a s l = tt
   agree_on end (f ∷ []) q x y i a s l = (s, omega arith, omega arith)
@@ -45,7 +45,7 @@ module _ (b c : List ℕ) where
       let (k, e) = i.0 in
       ((a.0, omega arith, omega arith, k), agree_on end (g ∷ gs) q x y i.1 a.1 s l)
 
-  stands_same : (s : Section) (l : NodeList) → s.header.end ≤ length b → s.header.end ≤ length c → ListEnd s l → All (Kept b c) (list_footprint l)
+  stands_same : (s : Section) (l : NodeList) → s.header.end ≤ length b → s.header.end ≤ length c → ListEnd s l → AllByRecursion (Kept b c) (list_footprint l)
       → Stands b s.header s.log l → Stands c s.header s.log l
   stands_same s l x y e (u, (t, a)) st =
       let p = st.part in
@@ -70,9 +70,9 @@ module _ (b c : List ℕ) where
   means_same : (s : Section) → s.header.end ≤ length c → ((i : ℕ) → Footprint s i → get_or c i 0 ≡ get_or b i 0) → Means b s → Means c s
   means_same s n h m =
       let stored = m.header.stored in
-      let logs : All (Kept b c) (log_footprint s.log)
+      let logs : AllByRecursion (Kept b c) (log_footprint s.log)
       = all_from_in (Kept b c) (log_footprint s.log) (λ r j i x y. sym (h i (in_log (has_from_in (log_footprint s.log) r j) (x, y)))) in
-      let list : (l : NodeList) → In l s.lists → All (Kept b c) (list_footprint l)
+      let list : (l : NodeList) → In l s.lists → AllByRecursion (Kept b c) (list_footprint l)
       = λ l j. all_from_in (Kept b c) (list_footprint l) (λ r k i x y. sym (h i (in_list (has_from_in s.lists l j) (has_from_in (list_footprint l) r k) (x, y)))) in
       let stands : (l : NodeList) → In l s.lists → Stands c s.header s.log l
       = λ l j. stands_same s l stored n (list_end m l j) (list l j) (all_in (Stands b s.header s.log) s.lists l m.lists j) in

@@ -1,6 +1,6 @@
 -- Looks, and what a list holds, read nothing but the footprint: the law that only the footprint counts.
 use Rattle.std.proofs.Common.{◌≡◌, ℕ, zero, suc, ◌≤◌, Bool, true, false, not, ◌||◌, eqb, ltb, leb, List, [], ◌∷◌, map, length, get_or, drop, sym, refl, ap, arith}
-use Rattle.std.specs.List.{AllByRecursion as All}
+use Rattle.std.specs.List.{AllByRecursion}
 use Rattle.model.specs.declared.types.Span.{Span}
 use Rattle.model.specs.declared.types.Fault.{Fault}
 use Rattle.model.specs.Bytes.{piece}
@@ -36,7 +36,7 @@ alike b c false false f g n e = e
 
 module _ (b c : List ℕ) (s : Section) (m : Means b s) (n : s.header.end ≤ length c) (h : (i : ℕ) → Footprint s i → get_or c i 0 ≡ get_or b i 0) where
   -- present data stands in both rows
-  data_same : All (DataSame b c) (data_spans s.lists)
+  data_same : AllByRecursion (DataSame b c) (data_spans s.lists)
   data_same = all_from_in (DataSame b c) (data_spans s.lists) (λ r j.
       let d : end_of r ≤ s.header.end = all_in (λ (r : Span). end_of r ≤ s.header.end) (data_spans s.lists) r m.data_inside j in
       let stored = m.header.stored in

@@ -1,6 +1,6 @@
 -- The parts that are written are bytes.
 use Rattle.std.proofs.Common.{ℕ, zero, suc, ◌+◌, ◌-◌, ◌*◌, ◌%◌, ◌<◌, ◌≤◌, List, [], ◌∷◌, ◌++◌, length, replicate, arith}
-use Rattle.std.specs.List.{AllByRecursion as All}
+use Rattle.std.specs.List.{AllByRecursion}
 use Rattle.std.proofs.lemmas.List.{length-append, length-replicate}
 use Rattle.std.proofs.ByRecursion.{All-append}
 use Rattle.model.specs.declared.types.Span.{Span}
@@ -23,7 +23,7 @@ abbrev row_of : List (List ℕ) → List ℕ → List ℕ
 row_of [] last = last
 row_of (xs ∷ xss) last = xs ++ row_of xss last
 
-row_bytes : (xss : List (List ℕ)) (last : List ℕ) → All Bytes xss → Bytes last → Bytes (row_of xss last)
+row_bytes : (xss : List (List ℕ)) (last : List ℕ) → AllByRecursion Bytes xss → Bytes last → Bytes (row_of xss last)
 row_bytes [] last a c = c
 row_bytes (xs ∷ xss) last (p, a) c = All-append (λ x. x < 256) xs (row_of xss last) p (row_bytes xss last a c)
 
@@ -45,14 +45,14 @@ pub fragment_bytes : (id number : ℕ) (node : List ℕ) → Bytes node → Byte
 fragment_bytes id number node a =
     let zeros = replicate (988 - length node) 0 in
     let parts : List (List ℕ) = digits 8 first_mark ∷ digits 4 id ∷ digits 4 number ∷ node ∷ zeros ∷ span_bytes nil ∷ [] in
-    let each : All Bytes parts = (digits_bytes 8 first_mark, (digits_bytes 4 id, (digits_bytes 4 number, (a, (zeros_bytes (988 - length node), (span_bytes_bytes nil, tt)))))) in
+    let each : AllByRecursion Bytes parts = (digits_bytes 8 first_mark, (digits_bytes 4 id, (digits_bytes 4 number, (a, (zeros_bytes (988 - length node), (span_bytes_bytes nil, tt)))))) in
     row_bytes parts (digits 8 last_mark) each (digits_bytes 8 last_mark)
 
 pub log_fragment_bytes : (es : List Entry) → Bytes (new_log_fragment es)
 log_fragment_bytes es =
     let zeros = replicate (8 * (126 - length es)) 0 in
     let parts : List (List ℕ) = entry_bytes es ∷ zeros ∷ span_bytes nil ∷ [] in
-    let each : All Bytes parts = (entries_bytes es, (zeros_bytes (8 * (126 - length es)), (span_bytes_bytes nil, tt))) in
+    let each : AllByRecursion Bytes parts = (entries_bytes es, (zeros_bytes (8 * (126 - length es)), (span_bytes_bytes nil, tt))) in
     row_bytes parts (replicate 4 0) each (zeros_bytes 4)
 
 pub piece_bytes : (y : Layout) (new : List ℕ) → Bytes new → Bytes (at_end y new).new

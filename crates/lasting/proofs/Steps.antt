@@ -1,6 +1,6 @@
 -- Writes that take a draft's end from one place to another, all of them in the free zone of the file.
 use Rattle.std.proofs.Common.{◌≡◌, ℕ, ◌+◌, ◌<◌, ◌≤◌, max, List, [], ◌∷◌, ◌++◌, length, arith}
-use Rattle.std.specs.List.{AllByRecursion as All}
+use Rattle.std.specs.List.{AllByRecursion}
 use Rattle.std.proofs.ByRecursion.{All-append}
 use Rattle.model.specs.Bytes.{Write, put, behind, Bytes}
 use Rattle.model.specs.Section.{Section}
@@ -12,8 +12,8 @@ use Rattle.lasting.proofs.Sizes.{piece_bytes}
 
 pub record Steps (s : Section) (from to : ℕ) (ws : List Write) : Type 0 where
   pub rises : from ≤ to
-  pub free : All (WritesFree s) ws
-  pub are_bytes : All (λ w. Bytes w.new) ws
+  pub free : AllByRecursion (WritesFree s) ws
+  pub are_bytes : AllByRecursion (λ w. Bytes w.new) ws
   -- a row that reaches the draft's end takes them, if the ceiling is no lower than the row and the new end
   pub taken : (n ceiling : ℕ) → from ≤ n → n ≤ ceiling → to ≤ ceiling → Taken n ceiling ws
   -- and then reaches the new end, and no further

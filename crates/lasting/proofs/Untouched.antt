@@ -1,6 +1,6 @@
 -- Writes to the free zone of an accepted file, done or cut, leave the finished file as it was.
 use Rattle.std.proofs.Common.{◌≡◌, ℕ, ◌≤◌, max, List, [], ◌∷◌, ◌++◌, length, get_or, ◌∙◌, inl, inr, arith}
-use Rattle.std.specs.List.{AllByRecursion as All}
+use Rattle.std.specs.List.{AllByRecursion}
 use Rattle.std.proofs.lemmas.Bool.{cases_lt}
 use Rattle.model.specs.Bytes.{Write, applied, behind}
 use Rattle.model.specs.Faults.{done}
@@ -33,7 +33,7 @@ outside s i w x a = elim (cases_lt i w.place) [
   ]
 ]
 
-all_outside : (s : Section) (i : ℕ) (ws : List Write) → (Free s i → ⊥) → All (WritesFree s) ws → All (Outside i) ws
+all_outside : (s : Section) (i : ℕ) (ws : List Write) → (Free s i → ⊥) → AllByRecursion (WritesFree s) ws → AllByRecursion (Outside i) ws
 all_outside s i [] x a = tt
 all_outside s i (w ∷ ws) x a = (outside s i w x a.0, all_outside s i ws x a.1)
 

@@ -1,6 +1,6 @@
 -- Outcomes, ranges apart, and lists whose elements stand apart pairwise.
 use Rattle.std.proofs.Common.{◌≡◌, ℕ, ◌≤◌, true, false, leb, List, [], ◌∷◌, ◌++◌, map, refl, ap, inl, inr, arith}
-use Rattle.std.specs.List.{AllByRecursion as All}
+use Rattle.std.specs.List.{AllByRecursion}
 use Rattle.std.proofs.lemmas.Bool.Decides.{nat_tests}
 use Rattle.std.proofs.lemmas.Bool.{cases_Bool, or_from, or_parts}
 use Rattle.std.proofs.ByRecursion.{All-append, All-weaker}
@@ -17,7 +17,7 @@ use Rattle.model.specs.Nodes.{Node, referring}
 
 -- no rule is broken
 abbrev pub Clean : List Check → Type 0
-Clean cs = All (λ c. c.0 ≡ false) cs
+Clean cs = AllByRecursion (λ c. c.0 ≡ false) cs
 
 pub unless_clean : {A : Type 0} (cs : List Check) (a : Outcome A) → Clean cs → unless cs a ≡ a
 unless_clean [] a k = refl
@@ -42,7 +42,7 @@ unless_tells P ((false, f) ∷ cs) a bad good =
 
 -- All --------------------------------------------------------------------------------------------------------------
 
-pub all_front : {X : Type 0} (P : X → Type 0) (xs ys : List X) → All P (xs ++ ys) → All P xs × All P ys
+pub all_front : {X : Type 0} (P : X → Type 0) (xs ys : List X) → AllByRecursion P (xs ++ ys) → AllByRecursion P xs × AllByRecursion P ys
 all_front P [] ys a = (tt, a)
 all_front P (x ∷ xs) ys (p, a) = let (q, r) = all_front P xs ys a in ((p, q), r)
 
@@ -50,7 +50,7 @@ all_front P (x ∷ xs) ys (p, a) = let (q, r) = all_front P xs ys a in ((p, q), 
 
 -- each of xs is R to each of ys
 abbrev pub Cross : {X : Type 0} → (X → X → Type 0) → List X → List X → Type 0
-Cross R xs ys = All (λ x. All (R x) ys) xs
+Cross R xs ys = AllByRecursion (λ x. AllByRecursion (R x) ys) xs
 
 pub pairs_join : {X : Type 0} (R : X → X → Type 0) (xs ys : List X) → Pairwise R xs → Pairwise R ys → Cross R xs ys → Pairwise R (xs ++ ys)
 pairs_join R [] ys a c d = c
@@ -67,7 +67,7 @@ cross_none : {X : Type 0} (R : X → X → Type 0) (xs : List X) → Cross R xs 
 cross_none R [] = tt
 cross_none R (x ∷ xs) = (tt, cross_none R xs)
 
-cross_push : {X : Type 0} (R : X → X → Type 0) (x : X) (xs ys : List X) → All (λ y. R y x) ys → Cross R ys xs → Cross R ys (x ∷ xs)
+cross_push : {X : Type 0} (R : X → X → Type 0) (x : X) (xs ys : List X) → AllByRecursion (λ y. R y x) ys → Cross R ys xs → Cross R ys (x ∷ xs)
 cross_push R x xs [] a c = tt
 cross_push R x xs (y ∷ ys) (p, a) (q, c) = ((p, q), cross_push R x xs ys a c)
 
@@ -95,7 +95,7 @@ pairs_move R as' l bs s a =
     let (c, d) = cross_front R as' l bs w in
     pairs_join R l (as' ++ bs) x (pairs_join R as' bs u y d) (cross_join R l as' bs (cross_back R as' l s c) z)
 
-pub all_move : {X : Type 0} (P : X → Type 0) (as' l bs : List X) → All P (as' ++ (l ++ bs)) → All P (l ++ (as' ++ bs))
+pub all_move : {X : Type 0} (P : X → Type 0) (as' l bs : List X) → AllByRecursion P (as' ++ (l ++ bs)) → AllByRecursion P (l ++ (as' ++ bs))
 all_move P as' l bs a =
     let (u, v) = all_front P as' (l ++ bs) a in
     let (x, y) = all_front P l bs v in
@@ -128,11 +128,11 @@ apart_share r s a = elim (cases_Bool (share r s)) [
 pub share_apart : (r s : Span) → share r s ≡ false → Apart r s
 share_apart r s e i x y = grind (arith, nat_tests)
 
-pub apart_meets : (r : Span) (ss : List Span) → All (Apart r) ss → meets r ss ≡ false
+pub apart_meets : (r : Span) (ss : List Span) → AllByRecursion (Apart r) ss → meets r ss ≡ false
 apart_meets r [] a = refl
 apart_meets r (s ∷ ss) (p, a) = or_from (share r s) (meets r ss) (apart_share r s p) (apart_meets r ss a)
 
-pub apart_overlaps : (r : Span) (ss : List Span) → Apart r header_span → All (Apart r) ss → overlaps r ss ≡ false
+pub apart_overlaps : (r : Span) (ss : List Span) → Apart r header_span → AllByRecursion (Apart r) ss → overlaps r ss ≡ false
 apart_overlaps r ss h a = or_from (share r header_span) (meets r ss) (apart_share r header_span h) (apart_meets r ss a)
 
 pub inside_passes : (least end : ℕ) (f : Span) → 1 ≤ least → Inside least end f → outside least end f ≡ false
@@ -142,21 +142,21 @@ pub inside : (least end : ℕ) (f : Span) → outside least end f ≡ false → 
 inside least end f e = (grind (arith, nat_tests), grind (arith, nat_tests))
 
 -- what stands before a range is apart from it
-pub apart_before : (xs : List Span) (f : Span) (gs : List Span) → Pairwise Apart (xs ++ (f ∷ gs)) → All (Apart f) xs
+pub apart_before : (xs : List Span) (f : Span) (gs : List Span) → Pairwise Apart (xs ++ (f ∷ gs)) → AllByRecursion (Apart f) xs
 apart_before [] f gs a = tt
 apart_before (x ∷ xs) f gs (p, a) =
     let (u, v) = all_front (Apart x) xs (f ∷ gs) p in
     (apart_back x f v.0, apart_before xs f gs a)
 
-pub meets_apart : (r : Span) (ss : List Span) → meets r ss ≡ false → All (Apart r) ss
+pub meets_apart : (r : Span) (ss : List Span) → meets r ss ≡ false → AllByRecursion (Apart r) ss
 meets_apart r [] e = tt
 meets_apart r (s ∷ ss) e = let (x, y) = or_parts (share r s) (meets r ss) e in (share_apart r s x, meets_apart r ss y)
 
-pub overlaps_apart : (r : Span) (ss : List Span) → overlaps r ss ≡ false → All (Apart r) (header_span ∷ ss)
+pub overlaps_apart : (r : Span) (ss : List Span) → overlaps r ss ≡ false → AllByRecursion (Apart r) (header_span ∷ ss)
 overlaps_apart r ss e = let (x, y) = or_parts (share r header_span) (meets r ss) e in (share_apart r header_span x, meets_apart r ss y)
 
 -- one more at the end
-pub pairs_push : (xs : List Span) (f : Span) → Pairwise Apart xs → All (Apart f) xs → Pairwise Apart (xs ++ (f ∷ []))
+pub pairs_push : (xs : List Span) (f : Span) → Pairwise Apart xs → AllByRecursion (Apart f) xs → Pairwise Apart (xs ++ (f ∷ []))
 pairs_push [] f a c = (tt, tt)
 pairs_push (x ∷ xs) f (p, a) (q, c) = (All-append (Apart x) xs (f ∷ []) p (apart_back f x q, tt), pairs_push xs f a c)
 
@@ -168,4 +168,4 @@ references ns = map (λ n. n.reference) (referring 1 ns)
 
 -- data that ends by the file's end, and shares no byte with the header or a fragment
 abbrev pub DataFits : ℕ → List Span → Span → Type 0
-DataFits end fs r = (end_of r ≤ end) × All (Apart r) (header_span ∷ fs)
+DataFits end fs r = (end_of r ≤ end) × AllByRecursion (Apart r) (header_span ∷ fs)

@@ -1,6 +1,6 @@
 -- The checks of present data references: each is right, or one is the first that is not.
 use Rattle.std.proofs.Common.{◌≡◌, ℕ, ◌≤◌, ltb, List, [], ◌∷◌, ◌++◌, map, sym, refl, ap, ◌∙◌, subst}
-use Rattle.std.specs.List.{AllByRecursion as All}
+use Rattle.std.specs.List.{AllByRecursion}
 use Rattle.std.proofs.lemmas.List.{map-append}
 use Rattle.std.proofs.lemmas.Simd.{map-map}
 use Rattle.std.proofs.lemmas.Bool.{cond_both, cond-true, cond-false, ltb-true, ltb-false, lt-ltb, le-ltb}
@@ -58,14 +58,14 @@ module _ (end : ℕ) (fs : List Span) where
     pub later : List (ℕ × Node)
     pub n : ℕ × Node
     pub is : ns ≡ before ++ (n ∷ later)
-    pub right : All (DataRight end fs) before
+    pub right : AllByRecursion (DataRight end fs) before
     pub breaks : DataBreaks end fs n e
 
   wrong_later : (n : ℕ × Node) (ns : List (ℕ × Node)) (e : Fault) → DataRight end fs n → FirstWrong ns e → FirstWrong (n ∷ ns) e
   wrong_later n ns e r w = record { before = n ∷ w.before; later = w.later; n = w.n; is = ap (λ z. n ∷ z) w.is; right = (r, w.right); breaks = w.breaks }
 
   nodes_tell : {A : Type 0} (P : Outcome A → Type 0) (a : Outcome A) (ns : List (ℕ × Node)) → ((e : Fault) → FirstWrong ns e → P (refused e))
-      → (All (DataRight end fs) ns → P a) → P (unless (all_checks ns) a)
+      → (AllByRecursion (DataRight end fs) ns → P a) → P (unless (all_checks ns) a)
   nodes_tell P a [] bad good = good tt
   nodes_tell P a (n ∷ ns) bad good =
       let r = n.1.reference in
@@ -77,7 +77,7 @@ module _ (end : ℕ) (fs : List Span) where
       let right : DataRight end fs n = record { inside = i; apart = overlaps_apart r fs y } in
       nodes_tell P a ns (λ e w. bad e (wrong_later n ns e right w)) (λ g. good (right, g))))
 
-  wrong_refused : {A : Type 0} (a : Outcome A) (before later : List (ℕ × Node)) (n : ℕ × Node) (e : Fault) → All (DataRight end fs) before → DataBreaks end fs n e
+  wrong_refused : {A : Type 0} (a : Outcome A) (before later : List (ℕ × Node)) (n : ℕ × Node) (e : Fault) → AllByRecursion (DataRight end fs) before → DataBreaks end fs n e
       → unless (all_checks (before ++ (n ∷ later))) a ≡ refused e
   wrong_refused a [] later n e r (data_outside l) = cond-true (ltb end (end_of n.1.reference)) _ _ (lt-ltb end (end_of n.1.reference) l)
   wrong_refused a [] later n e r (data_overlap i k) =
@@ -90,13 +90,13 @@ module _ (end : ℕ) (fs : List Span) where
 -- what the checks of all data tell
 pub data_tells : {A : Type 0} (h : Header) (log : Log) (ls : List NodeList) (P : Outcome A → Type 0) (a : Outcome A)
     → ((e : Fault) → FirstWrong h.end (log.fragments ++ list_fragments ls) (data_nodes ls) e → P (refused e))
-    → (All (DataRight h.end (log.fragments ++ list_fragments ls)) (data_nodes ls) → P a) → P (unless (all_data h log ls) a)
+    → (AllByRecursion (DataRight h.end (log.fragments ++ list_fragments ls)) (data_nodes ls) → P a) → P (unless (all_data h log ls) a)
 data_tells h log ls P a bad good =
     let fs = log.fragments ++ list_fragments ls in
     subst (λ cs. P (unless cs a)) (sym (checks_are h.end fs ls)) (nodes_tell h.end fs P a (data_nodes ls) bad good)
 
 pub data_refused : {A : Type 0} (h : Header) (log : Log) (ls : List NodeList) (a : Outcome A) (before later : List (ℕ × Node)) (n : ℕ × Node) (e : Fault)
-    → data_nodes ls ≡ before ++ (n ∷ later) → All (DataRight h.end (log.fragments ++ list_fragments ls)) before
+    → data_nodes ls ≡ before ++ (n ∷ later) → AllByRecursion (DataRight h.end (log.fragments ++ list_fragments ls)) before
     → DataBreaks h.end (log.fragments ++ list_fragments ls) n e → unless (all_data h log ls) a ≡ refused e
 data_refused h log ls a before later n e q r w =
     let fs = log.fragments ++ list_fragments ls in
@@ -104,5 +104,5 @@ data_refused h log ls a before later n e q r w =
 
 -- data that is right, told of the spans
 pub data_fits : (end : ℕ) (fs : List Span) (ls : List NodeList) (P : Span → Type 0) → ((n : ℕ × Node) → DataRight end fs n → P n.1.reference)
-    → All (DataRight end fs) (data_nodes ls) → All P (data_spans ls)
-data_fits end fs ls P k a = subst (All P) (sym (spans_of ls)) (All-map P (λ n. n.1.reference) (data_nodes ls) (All-weaker (DataRight end fs) (λ n. P n.1.reference) k (data_nodes ls) a))
+    → AllByRecursion (DataRight end fs) (data_nodes ls) → AllByRecursion P (data_spans ls)
+data_fits end fs ls P k a = subst (AllByRecursion P) (sym (spans_of ls)) (All-map P (λ n. n.1.reference) (data_nodes ls) (All-weaker (DataRight end fs) (λ n. P n.1.reference) k (data_nodes ls) a))

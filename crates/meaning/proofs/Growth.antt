@@ -1,6 +1,6 @@
 -- Chains of fragments that grow at their end: the row of a log, the nodes of a list.
 use Rattle.std.proofs.Common.{◌≡◌, ℕ, zero, suc, ◌+◌, ◌≤◌, true, List, [], ◌∷◌, ◌++◌, length, sym, refl, ap, ◌∙◌, subst, add-zero, arith}
-use Rattle.std.specs.List.{AllByRecursion as All}
+use Rattle.std.specs.List.{AllByRecursion}
 use Rattle.std.proofs.lemmas.List.{append_assoc, append-nil}
 use Rattle.std.proofs.ByRecursion.{All-append}
 use Rattle.model.specs.declared.types.Span.{Span}
@@ -14,7 +14,7 @@ use Rattle.model.specs.LogFragments.{entry_at, entries_in, entry_place, log_next
 use Rattle.model.specs.Section.{last_of}
 use Rattle.model.specs.Means.{Inside, Chain, entries_of, log_row, Rising, Good, Nodes, Spread, within, across, Marked, Numbered, PartOfList}
 
-pub last_all : {A : Type 0} (P : A → Type 0) (d x : A) (xs : List A) → All P (x ∷ xs) → P (last_of d (x ∷ xs))
+pub last_all : {A : Type 0} (P : A → Type 0) (d x : A) (xs : List A) → AllByRecursion P (x ∷ xs) → P (last_of d (x ∷ xs))
 last_all P d x [] (p, a) = p
 last_all P d x (y ∷ ys) (p, a) = last_all P x y ys a
 

@@ -1,6 +1,6 @@
 -- Reading a list, step by step: what its checks say, its first fragment, and a later one.
 use Rattle.std.proofs.Common.{◌≡◌, ℕ, zero, suc, ◌-◌, ◌≤◌, Bool, true, false, not, ◌||◌, eqb, ltb, List, [], ◌∷◌, ◌++◌, map, length, refl, inl, inr, arith}
-use Rattle.std.specs.List.{ContainsAt as Has}
+use Rattle.std.specs.List.{ContainsAt}
 use Rattle.std.proofs.lemmas.List.{append-nil}
 use Rattle.std.proofs.lemmas.Bool.{cases_Bool, eqb-true, eq-eqb, or_cases, or_left, or_right}
 use Rattle.std.proofs.lemmas.Bool.Decides.{nat_tests}
@@ -32,7 +32,7 @@ passes_marked b id number f e =
     (record { first = grind (arith, nat_tests); last = grind (arith, nat_tests); list = grind (arith, nat_tests); sequence_number = grind (arith, nat_tests) }, grind (arith, nat_tests))
 
 -- an ID is taken where a list has it
-pub taken_has : (id : ℕ) (ls : List NodeList) → taken id ls ≡ true → Has (map (λ l. l.id) ls) id
+pub taken_has : (id : ℕ) (ls : List NodeList) → taken id ls ≡ true → ContainsAt (map (λ l. l.id) ls) id
 taken_has id ls e = has_from_in (map (λ (l : NodeList). l.id) ls) id (by ls e)
   where
     by : (ls : List NodeList) → taken id ls ≡ true → In id (map (λ l. l.id) ls)
@@ -42,13 +42,13 @@ taken_has id ls e = has_from_in (map (λ (l : NodeList). l.id) ls) id (by ls e)
       | inr x ↦ inr (by ls x)
     ]
 
-pub not_had : (id : ℕ) (ls : List NodeList) → (Has (map (λ l. l.id) ls) id → ⊥) → taken id ls ≡ false
+pub not_had : (id : ℕ) (ls : List NodeList) → (ContainsAt (map (λ l. l.id) ls) id → ⊥) → taken id ls ≡ false
 not_had id ls n = elim (cases_Bool (taken id ls)) [
   | inl e ↦ absurd (n (taken_has id ls e))
   | inr e ↦ e
 ]
 
-pub has_taken : (id : ℕ) (ls : List NodeList) → Has (map (λ l. l.id) ls) id → taken id ls ≡ true
+pub has_taken : (id : ℕ) (ls : List NodeList) → ContainsAt (map (λ l. l.id) ls) id → taken id ls ≡ true
 has_taken id ls x = by ls (in_from_has (map (λ (l : NodeList). l.id) ls) id x)
   where
     by : (ls : List NodeList) → In id (map (λ l. l.id) ls) → taken id ls ≡ true

@@ -1,6 +1,6 @@
 -- What bytes mean, they open as.
 use Rattle.std.proofs.Common.{◌≡◌, ℕ, ◌-◌, ◌≤◌, true, false, not, ◌||◌, eqb, ltb, List, [], ◌∷◌, ◌++◌, map, length, sym, refl, ap, ◌∙◌, arith}
-use Rattle.std.specs.List.{ContainsAt as Has, AllByRecursion as All}
+use Rattle.std.specs.List.{ContainsAt, AllByRecursion}
 use Rattle.std.proofs.lemmas.List.{append-nil, drop_all}
 use Rattle.std.proofs.lemmas.Bool.Decides.{nat_tests}
 use Rattle.std.proofs.lemmas.Bool.{and_from}
@@ -52,7 +52,7 @@ headed_passes b h r =
 
 -- data -------------------------------------------------------------------------------------------------------------
 
-data_passes : (end : ℕ) (fs : List Span) (id : ℕ) (ns : List Node) → All (λ n. DataFits end fs n.reference) ns → Clean (data_checks end fs id ns)
+data_passes : (end : ℕ) (fs : List Span) (id : ℕ) (ns : List Node) → AllByRecursion (λ n. DataFits end fs n.reference) ns → Clean (data_checks end fs id ns)
 data_passes end fs id [] a = tt
 data_passes end fs id (n ∷ ns) ((x, (y, z)), a) =
     let e : ltb end (end_of n.reference) ≡ false = grind (arith, nat_tests) in
@@ -60,7 +60,7 @@ data_passes end fs id (n ∷ ns) ((x, (y, z)), a) =
 
 -- the fragments of the same lists in another order
 same_fragments : (log : Log) (S T : List NodeList) (P : Span → Type 0) → ((l : NodeList) → In l T → In l S)
-    → All P (log.fragments ++ list_fragments S) → All P (log.fragments ++ list_fragments T)
+    → AllByRecursion P (log.fragments ++ list_fragments S) → AllByRecursion P (log.fragments ++ list_fragments T)
 same_fragments log S T P k a =
     let (u, v) = all_front P log.fragments (list_fragments S) a in
     All-append P log.fragments (list_fragments T) u (all_from_in P (list_fragments T) (λ f i.
@@ -69,7 +69,7 @@ same_fragments log S T P k a =
 
 -- references to data that are right pass
 pub data_clean : (h : Header) (log : Log) (S T : List NodeList) → ((l : NodeList) → In l T → In l S)
-    → All (λ r. end_of r ≤ h.end) (data_spans S) → All (λ r. All (Apart r) (header_span ∷ (log.fragments ++ list_fragments S))) (data_spans S)
+    → AllByRecursion (λ r. end_of r ≤ h.end) (data_spans S) → AllByRecursion (λ r. AllByRecursion (Apart r) (header_span ∷ (log.fragments ++ list_fragments S))) (data_spans S)
     → Clean (all_data h log T)
 data_clean h log S T k inside apart =
     let checks : NodeList → List Check = λ l. data_checks h.end (log.fragments ++ list_fragments T) l.id (referring 1 l.nodes) in
@@ -78,8 +78,8 @@ data_clean h log S T k inside apart =
     (all_from_in (λ (n : Node). DataFits h.end (log.fragments ++ list_fragments T) n.reference) (referring 1 l.nodes) (λ n j.
     let r : In n.reference (data_spans S)
     = in_flat (λ (l : NodeList). references l.nodes) S l n.reference (k l i) (in_map (λ (n : Node). n.reference) (referring 1 l.nodes) n j) in
-    let a : All (Apart n.reference) (header_span ∷ (log.fragments ++ list_fragments S))
-    = all_in (λ r. All (Apart r) (header_span ∷ (log.fragments ++ list_fragments S))) (data_spans S) n.reference apart r in
+    let a : AllByRecursion (Apart n.reference) (header_span ∷ (log.fragments ++ list_fragments S))
+    = all_in (λ r. AllByRecursion (Apart r) (header_span ∷ (log.fragments ++ list_fragments S))) (data_spans S) n.reference apart r in
     (all_in (λ r. end_of r ≤ h.end) (data_spans S) n.reference inside r, (a.0, same_fragments log S T (Apart n.reference) k a.1))))))
 
 -- opening ----------------------------------------------------------------------------------------------------------
@@ -101,8 +101,8 @@ module _ (b : List ℕ) (h : Header) where
   behind_lists log ls queue k l w = behind_log log k l ∙ ap (λ a. then a (last_part h log)) (walked_read b h log ls queue w)
 
   -- and ends where the data is right
-  behind_data : (log : Log) (S T : List NodeList) → ((l : NodeList) → In l T → In l S) → All (λ r. end_of r ≤ h.end) (data_spans S)
-      → All (λ r. All (Apart r) (header_span ∷ (log.fragments ++ list_fragments S))) (data_spans S) → last_part h log T ≡ done (record { header = h; log = log; lists = T })
+  behind_data : (log : Log) (S T : List NodeList) → ((l : NodeList) → In l T → In l S) → AllByRecursion (λ r. end_of r ≤ h.end) (data_spans S)
+      → AllByRecursion (λ r. AllByRecursion (Apart r) (header_span ∷ (log.fragments ++ list_fragments S))) (data_spans S) → last_part h log T ≡ done (record { header = h; log = log; lists = T })
   behind_data log S T k inside apart = unless_clean (all_data h log T) _ (data_clean h log S T k inside apart)
 
 -- the whole --------------------------------------------------------------------------------------------------------
@@ -146,7 +146,7 @@ meant_opens b s m =
         header = refl;
         log = refl;
         number = k.same;
-        lists = all_from_in (λ l. Has T l) s.lists (λ l i. has_from_in T l (k.from l i));
+        lists = all_from_in (λ l. ContainsAt T l) s.lists (λ l i. has_from_in T l (k.from l i));
       },
     )
 

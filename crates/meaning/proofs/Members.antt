@@ -1,6 +1,6 @@
 -- Membership by recursion, the pigeonhole, and lists of lists.
 use Rattle.std.proofs.Common.{◌≡◌, zero, suc, ◌≤◌, ◌≢◌, ◌⊎◌, List, [], ◌∷◌, ◌++◌, map, length, sym, refl, ap, ◌∙◌, subst, inl, inr, arith}
-use Rattle.std.specs.List.{ContainsAt as Has, AllByRecursion as All}
+use Rattle.std.specs.List.{ContainsAt, AllByRecursion}
 use Rattle.std.proofs.lemmas.List.{append_assoc, append-nil, length-append}
 use Rattle.std.proofs.ByRecursion.{All-append}
 use Rattle.model.specs.Section.{flat}
@@ -11,12 +11,12 @@ abbrev pub In : {X : Type 0} → X → List X → Type 0
 In x [] = ⊥
 In x (y ∷ ys) = (y ≡ x) ⊎ In x ys
 
-pub in_from_has : {X : Type 0} (xs : List X) (x : X) → Has xs x → In x xs
+pub in_from_has : {X : Type 0} (xs : List X) (x : X) → ContainsAt xs x → In x xs
 in_from_has [] x (k, l, e) = absurd (omega arith)
 in_from_has (y ∷ ys) x (zero, l, e) = inl (e y)
 in_from_has (y ∷ ys) x (suc k, l, e) = inr (in_from_has ys x (k, omega arith, e))
 
-pub has_from_in : {X : Type 0} (xs : List X) (x : X) → In x xs → Has xs x
+pub has_from_in : {X : Type 0} (xs : List X) (x : X) → In x xs → ContainsAt xs x
 has_from_in [] x i = absurd i
 has_from_in (y ∷ ys) x (inl e) = (zero, omega arith, λ d. e)
 has_from_in (y ∷ ys) x (inr i) = let (k, l, e) = has_from_in ys x i in (suc k, omega arith, e)
@@ -66,12 +66,12 @@ in_unflat {X} f (z ∷ xs) y i = in_cases (f z) (flat (map f xs)) y ((x : X) × 
     (λ j. (z, inl refl, j))
     (λ j. let (x, k, m) = in_unflat f xs y j in (x, inr k, m))
 
-pub all_in : {X : Type 0} (P : X → Type 0) (xs : List X) (x : X) → All P xs → In x xs → P x
+pub all_in : {X : Type 0} (P : X → Type 0) (xs : List X) (x : X) → AllByRecursion P xs → In x xs → P x
 all_in P [] x a i = absurd i
 all_in P (z ∷ xs) x (p, a) (inl e) = subst P e p
 all_in P (z ∷ xs) x (p, a) (inr i) = all_in P xs x a i
 
-pub all_from_in : {X : Type 0} (P : X → Type 0) (xs : List X) → ((x : X) → In x xs → P x) → All P xs
+pub all_from_in : {X : Type 0} (P : X → Type 0) (xs : List X) → ((x : X) → In x xs → P x) → AllByRecursion P xs
 all_from_in P [] k = tt
 all_from_in P (x ∷ xs) k = (k x (inl refl), all_from_in P xs (λ y i. k y (inr i)))
 
@@ -133,10 +133,10 @@ pub flat_push : {X : Type 0} (xs : List (List X)) (x : List X) → flat (xs ++ (
 flat_push xs x = flat_join xs (x ∷ []) ∙ ap (λ z. flat xs ++ z) (append-nil x)
 
 -- what holds of all pieces holds of the pieces of each, and the other way round
-pub all_flat : {X Y : Type 0} (P : Y → Type 0) (f : X → List Y) (xs : List X) → All P (flat (map f xs)) → All (λ x. All P (f x)) xs
+pub all_flat : {X Y : Type 0} (P : Y → Type 0) (f : X → List Y) (xs : List X) → AllByRecursion P (flat (map f xs)) → AllByRecursion (λ x. AllByRecursion P (f x)) xs
 all_flat P f [] a = tt
 all_flat P f (x ∷ xs) a = let (p, q) = all_front P (f x) (flat (map f xs)) a in (p, all_flat P f xs q)
 
-pub flat_all : {X Y : Type 0} (P : Y → Type 0) (f : X → List Y) (xs : List X) → All (λ x. All P (f x)) xs → All P (flat (map f xs))
+pub flat_all : {X Y : Type 0} (P : Y → Type 0) (f : X → List Y) (xs : List X) → AllByRecursion (λ x. AllByRecursion P (f x)) xs → AllByRecursion P (flat (map f xs))
 flat_all P f [] a = tt
 flat_all P f (x ∷ xs) (p, a) = All-append P (f x) (flat (map f xs)) p (flat_all P f xs a)

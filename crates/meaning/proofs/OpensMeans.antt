@@ -1,6 +1,6 @@
 -- What opening tells: the file is right, and is opened as what its bytes mean, or this is the first rule that it breaks.
 use Rattle.std.proofs.Common.{◌≡◌, ℕ, ◌≤◌, false, not, List, [], ◌∷◌, ◌++◌, map, length, sym, refl, ap, ◌∙◌, subst, inl, inr, arith}
-use Rattle.std.specs.List.{ContainsAt as Has, AllByRecursion as All}
+use Rattle.std.specs.List.{ContainsAt, AllByRecursion}
 use Rattle.std.proofs.lemmas.List.{append-nil, length-map}
 use Rattle.std.proofs.lemmas.Bool.Decides.{nat_tests}
 use Rattle.model.specs.declared.types.Fault.{Fault}
@@ -54,9 +54,9 @@ passes_headed b (x, (y, (z, (w, (u, (v, t)))))) = record {
 -- the whole --------------------------------------------------------------------------------------------------------
 
 -- lists that name each of them, in their order
-named_from_order : (h : Header) (ls : List NodeList) → InOrder h ls → All (λ q. Has (map first_of ls) q.1) (named_in h ls)
-named_from_order h ls o = all_from_in (λ (q : Named). Has (map first_of ls) q.1) (named_in h ls) (λ q i.
-    subst (λ w. Has w q.1) (sym o) (has_from_in (spans (named_in h ls)) q.1 (in_map (λ (q : Named). q.1) (named_in h ls) q i)))
+named_from_order : (h : Header) (ls : List NodeList) → InOrder h ls → AllByRecursion (λ q. ContainsAt (map first_of ls) q.1) (named_in h ls)
+named_from_order h ls o = all_from_in (λ (q : Named). ContainsAt (map first_of ls) q.1) (named_in h ls) (λ q i.
+    subst (λ w. ContainsAt w q.1) (sym o) (has_from_in (spans (named_in h ls)) q.1 (in_map (λ (q : Named). q.1) (named_in h ls) q i)))
 
 once_from_order : (h : Header) (ls : List NodeList) → InOrder h ls → length (named_in h ls) ≡ length ls
 once_from_order h ls o = sym (length-map (named_in h ls) (λ (q : Named). q.1)) ∙ sym (ap length o) ∙ length-map ls first_of
@@ -82,7 +82,7 @@ module _ (b : List ℕ) (h : Header) (headed : Headed b h) where
           ids_differ = w.ids_differ;
           fragments_apart = w.apart;
           data_inside = data_fits h.end fs ls (λ r. end_of r ≤ h.end) (λ n d. d.inside) r;
-          data_apart = data_fits h.end fs ls (λ r. All (Apart r) (header_span ∷ fs)) (λ n d. d.apart) r;
+          data_apart = data_fits h.end fs ls (λ r. AllByRecursion (Apart r) (header_span ∷ fs)) (λ n d. d.apart) r;
           few_lists = w.few_lists;
           few_fragments = w.few;
         },
@@ -137,8 +137,8 @@ means_one b s t m n =
       header = z.header;
       log = z.log;
       number = sym y.same ∙ z.number;
-      lists = all_from_in (λ (l : NodeList). Has t.lists l) s.lists (λ l j.
-          has_from_in t.lists l (y.to l (in_from_has v l (all_in (λ (l : NodeList). Has v l) s.lists l z.lists j))));
+      lists = all_from_in (λ (l : NodeList). ContainsAt t.lists l) s.lists (λ l j.
+          has_from_in t.lists l (y.to l (in_from_has v l (all_in (λ (l : NodeList). ContainsAt v l) s.lists l z.lists j))));
     }
 
 -- and one section in that order

@@ -1,6 +1,6 @@
 -- Where a fragment may stand: the checks of its place, and what they say of it.
 use Rattle.std.proofs.Common.{◌≡◌, ℕ, ◌<◌, ◌≤◌, Bool, true, false, List, [], ◌∷◌, length, ◌∙◌, inl, inr, arith}
-use Rattle.std.specs.List.{AllByRecursion as All}
+use Rattle.std.specs.List.{AllByRecursion}
 use Rattle.std.proofs.lemmas.Bool.{cases_Bool, both_ways, cond_both, cond-true, cond-false}
 use Rattle.model.specs.declared.types.Span.{Span}
 use Rattle.model.specs.declared.types.Fault.{Fault}
@@ -25,11 +25,11 @@ not_inside least end f o e i = both_ways (outside least end f) (inside_passes le
 pub is_not_inside : (least end : ℕ) (f : Span) → (Inside least end f → ⊥) → outside least end f ≡ true
 is_not_inside least end f n = by_rule (outside least end f) (Inside least end f) (inside least end f) n
 
-pub not_apart : (f : Span) (before : List Span) → overlaps f before ≡ true → All (Apart f) (header_span ∷ before) → ⊥
+pub not_apart : (f : Span) (before : List Span) → overlaps f before ≡ true → AllByRecursion (Apart f) (header_span ∷ before) → ⊥
 not_apart f before e a = both_ways (overlaps f before) (apart_overlaps f before a.0 a.1) e
 
-pub is_not_apart : (f : Span) (before : List Span) → (All (Apart f) (header_span ∷ before) → ⊥) → overlaps f before ≡ true
-is_not_apart f before n = by_rule (overlaps f before) (All (Apart f) (header_span ∷ before)) (overlaps_apart f before) n
+pub is_not_apart : (f : Span) (before : List Span) → (AllByRecursion (Apart f) (header_span ∷ before) → ⊥) → overlaps f before ≡ true
+is_not_apart f before n = by_rule (overlaps f before) (AllByRecursion (Apart f) (header_span ∷ before)) (overlaps_apart f before) n
 
 -- the checks of a place
 abbrev pub place_checks : ℕ → ℕ → ℕ → ℕ → ℕ → List Span → Span → List Check

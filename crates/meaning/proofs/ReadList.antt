@@ -1,6 +1,6 @@
 -- A list that stands is read as it is, and one that is right up to some place is read up to there.
 use Rattle.std.proofs.Common.{◌≡◌, ℕ, zero, suc, ◌+◌, ◌-◌, ◌<◌, ◌≤◌, true, false, eqb, ◌⊎◌, List, [], ◌∷◌, ◌++◌, length, sym, refl, ap, ◌∙◌, subst, inl, inr, arith}
-use Rattle.std.specs.List.{AllByRecursion as All}
+use Rattle.std.specs.List.{AllByRecursion}
 use Rattle.std.proofs.lemmas.List.{append_assoc, append-nil, length-append, length_push}
 use Rattle.std.proofs.lemmas.Bool.Decides.{nat_tests}
 use Rattle.std.proofs.lemmas.Bool.{and_right}
@@ -85,7 +85,7 @@ module _ (b : List ℕ) (end count : ℕ) (ls : List NodeList) (before : List Sp
       unless_clean (list_checks b end count ls before id field f fs) _ clean
 
   pub list_walks : (n m field : ℕ) (f : Span) (gs fs : List Span) (ns ms : List Node) (q : ℕ)
-      → Spread b (f ∷ gs) ms q → All (Inside 36 end) (f ∷ gs) → Numbered b id (length fs) (f ∷ gs)
+      → Spread b (f ∷ gs) ms q → AllByRecursion (Inside 36 end) (f ∷ gs) → Numbered b id (length fs) (f ∷ gs)
       → Pairwise Apart (header_span ∷ ((before ++ fs) ++ (f ∷ gs))) → Far count (length ns + length ms) (last_of f gs) q → n ≡ length (f ∷ gs) + m
       → (front : List Span) × (front ++ (last_of f gs ∷ []) ≡ fs ++ (f ∷ gs)) × (list_from n b end count ls before id field f fs ns ≡ from_node b end count ls before id m front (last_of f gs) (ns ++ ms) q)
   list_walks zero m field f gs fs ns ms q s i k a c l = absurd (omega arith)

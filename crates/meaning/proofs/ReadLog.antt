@@ -1,6 +1,6 @@
 -- A log that is right is read as it is, and one that is right up to some entry is read up to there.
 use Rattle.std.proofs.Common.{◌≡◌, ℕ, zero, suc, ◌+◌, ◌-◌, ◌<◌, ◌≤◌, true, false, cond, eqb, leb, ◌≢◌, List, [], ◌∷◌, ◌++◌, map, length, sym, refl, ap, ◌∙◌, subst, arith}
-use Rattle.std.specs.List.{AllByRecursion as All}
+use Rattle.std.specs.List.{AllByRecursion}
 use Rattle.std.proofs.lemmas.List.{append_assoc, append-nil, length-append, length_push, same_from_push}
 use Rattle.std.proofs.lemmas.Bool.{eq-eqb}
 use Rattle.std.proofs.ByRecursion.{All-append}
@@ -26,7 +26,7 @@ left pending t us = t ++ (sentinel (pending ++ t) ∷ flat (map closed us))
 
 pub record Ahead (ts : List (List Entry)) (pending t : List Entry) (us : List (List Entry)) : Type 0 where
   pub lists : CountsLists t
-  pub later : All CountsLists us
+  pub later : AllByRecursion CountsLists us
   pub rising : Rising (flat ts ++ pending) (t ++ flat us)
 
 -- the next entry is a count
@@ -167,7 +167,7 @@ Walks n m b h fs field f gs used ts pending t us es =
 
 log_walks : (n m : ℕ) (b : List ℕ) (h : Header) (fs : List Span) (field : ℕ) (f : Span) (gs : List Span) (used : ℕ)
     (ts : List (List Entry)) (pending t : List Entry) (us : List (List Entry)) (es : List Entry)
-    → Chain (log_next_of b) (log_next_of b f) gs → All (Inside 12 h.end) (f ∷ gs) → Pairwise Apart (header_span ∷ (fs ++ (f ∷ gs))) → n ≡ length (f ∷ gs) + m
+    → Chain (log_next_of b) (log_next_of b f) gs → AllByRecursion (Inside 12 h.end) (f ∷ gs) → Pairwise Apart (header_span ∷ (fs ++ (f ∷ gs))) → n ≡ length (f ∷ gs) + m
     → Ahead ts pending t us → length (ts ++ ((pending ++ t) ∷ us)) ≤ h.count → log_row b (f ∷ gs) used ++ es ≡ left pending t us → 1 ≤ length es
     → used ≤ entries_in (last_of f gs).size → Walks n m b h fs field f gs used ts pending t us es
 log_walks zero m b h fs field f gs used ts pending t us es c i p l a k q o u = absurd (omega arith)
@@ -220,7 +220,7 @@ log_part_read b h (f ∷ gs) used ts pending p s c =
     let few = p.few in
     let long = length_push ts pending in
     let all : Rising [] (flat (t ∷ us)) = subst (λ z. Rising [] z) (sym (flat_push ts pending) ∙ ap flat e) p.rising in
-    let lists : All CountsLists (t ∷ us) = subst (λ z. All CountsLists z) e (All-append CountsLists ts (pending ∷ []) p.lists (p.pending_lists, tt)) in
+    let lists : AllByRecursion CountsLists (t ∷ us) = subst (λ z. AllByRecursion CountsLists z) e (All-append CountsLists ts (pending ∷ []) p.lists (p.pending_lists, tt)) in
     let a : Ahead [] [] t us = record { lists = lists.0; later = lists.1; rising = all } in
     let row : log_row b (f ∷ gs) used ++ (sentinel pending ∷ []) ≡ left [] t us
     = ap (λ z. z ++ (sentinel pending ∷ [])) p.row ∙ append_assoc (flat (map closed ts)) pending (sentinel pending ∷ []) ∙ sym (closed_push ts pending)

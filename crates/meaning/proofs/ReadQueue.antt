@@ -1,6 +1,6 @@
 -- Lists that are right, each named once, are all read, in the order in which they are named.
 use Rattle.std.proofs.Common.{◌≡◌, ℕ, zero, suc, ◌+◌, ◌-◌, ◌≤◌, false, eqb, ◌≢◌, List, [], ◌∷◌, ◌++◌, map, length, get_or, drop, sym, refl, ap, ◌∙◌, subst, inl, inr, arith}
-use Rattle.std.specs.List.{ContainsAt as Has, AllByRecursion as All}
+use Rattle.std.specs.List.{ContainsAt, AllByRecursion}
 use Rattle.std.proofs.lemmas.List.{append_assoc, append-nil, length-append, length-map, length_push, length-drop, drop-drop, drop-append-le, map-append, append_cancel_left}
 use Rattle.std.proofs.lemmas.Bool.Decides.{nat_tests}
 use Rattle.std.proofs.lemmas.Bool.{or_from}
@@ -115,14 +115,14 @@ owner_with b h log l (f ∷ fs) e s =
 pub owner_first : (b : List ℕ) (h : Header) (log : Log) (l : NodeList) → Stands b h log l → owner b (first_of l) ≡ l.id
 owner_first b h log l s = owner_with b h log l l.fragments refl s
 
-pub not_taken : (id : ℕ) (ls : List NodeList) → All (λ k. k.id ≢ id) ls → taken id ls ≡ false
+pub not_taken : (id : ℕ) (ls : List NodeList) → AllByRecursion (λ k. k.id ≢ id) ls → taken id ls ≡ false
 not_taken id [] a = refl
 not_taken id (k ∷ ls) (p, a) =
     let e : eqb k.id id ≡ false = grind (arith, nat_tests) in
     or_from (eqb k.id id) (taken id ls) e (not_taken id ls a)
 
-cross_one : {X : Type 0} (R : X → X → Type 0) (xs ys : List X) (y : X) → Cross R xs (y ∷ ys) → All (λ x. R x y) xs
-cross_one R xs ys y c = All-weaker (λ x. All (R x) (y ∷ ys)) (λ x. R x y) (λ x a. a.0) xs c
+cross_one : {X : Type 0} (R : X → X → Type 0) (xs ys : List X) (y : X) → Cross R xs (y ∷ ys) → AllByRecursion (λ x. R x y) xs
+cross_one R xs ys y c = All-weaker (λ x. AllByRecursion (R x) (y ∷ ys)) (λ x. R x y) (λ x a. a.0) xs c
 
 pub lists_step : (n : ℕ) (b : List ℕ) (h : Header) (log : Log) (q : Named) (qs : List Named) (ls : List NodeList)
     → lists_from (suc n) b h log (q ∷ qs) ls ≡ then (named_list b h log ls q (owner b q.1)) (λ l. lists_from n b h log (qs ++ named_by l) (ls ++ (l ∷ [])))
@@ -157,7 +157,7 @@ next_read b h log ls rest q l ids fs_apart fs_few s e =
 -- which is read next ---------------------------------------------------------------------------------------------------------
 
 -- each list of S is named, once
-firsts_differ : (b : List ℕ) (h : Header) (log : Log) (T : List NodeList) → All (Stands b h log) T → Pairwise (λ l m. l.id ≢ m.id) T → Pairwise (λ x y. x ≢ y) (map first_of T)
+firsts_differ : (b : List ℕ) (h : Header) (log : Log) (T : List NodeList) → AllByRecursion (Stands b h log) T → Pairwise (λ l m. l.id ≢ m.id) T → Pairwise (λ x y. x ≢ y) (map first_of T)
 firsts_differ b h log [] s d = tt
 firsts_differ b h log (l ∷ T) (s, ss) (p, d) = (
   all_from_in (λ y. first_of l ≢ y) (map first_of T) (λ y i e.
@@ -189,9 +189,9 @@ named_append h ls rest =
 
 -- the lists that are right, as a whole
 pub record Right (b : List ℕ) (h : Header) (log : Log) (S : List NodeList) : Type 0 where
-  pub stands : All (Stands b h log) S
-  pub reached : All (λ l. Reached h S (first_of l)) S
-  pub named : All (λ q. Has (map first_of S) q.1) (named_in h S)
+  pub stands : AllByRecursion (Stands b h log) S
+  pub reached : AllByRecursion (λ l. Reached h S (first_of l)) S
+  pub named : AllByRecursion (λ q. ContainsAt (map first_of S) q.1) (named_in h S)
 
 -- ls are read, and the queue is what they name beside themselves
 abbrev pub Order : Header → List NodeList → List Named → Type 0
@@ -205,7 +205,7 @@ not_twice b h log S ls rest q qs l g k o e i =
     let E = spans (flat (map named_by rest)) in
     let firsts = map first_of ls in
     let all : spans (named_in h T) ≡ (firsts ++ (q.1 ∷ spans qs)) ++ E = named_append h ls rest ∙ ap (λ w. w ++ E) o in
-    let stand : All (Stands b h log) T = all_from_in (λ m. Stands b h log m) T (λ m j. all_in (λ m. Stands b h log m) S m g.stands (k.to m j)) in
+    let stand : AllByRecursion (Stands b h log) T = all_from_in (λ m. Stands b h log m) T (λ m j. all_in (λ m. Stands b h log m) S m g.stands (k.to m j)) in
     let hole : length (map first_of T) ≤ length ((firsts ++ spans qs) ++ E)
     = pigeon (map first_of T) ((firsts ++ spans qs) ++ E) (firsts_differ b h log T stand k.ids) (λ y j.
     let (m, j', w) = in_unmap first_of T y j in
@@ -232,7 +232,7 @@ next_list b h log S ls rest q qs g k o =
     let i : In q.1 (spans (named_in h ls)) = subst (λ w. In q.1 w) (sym o) (in_right (map first_of ls) (q.1 ∷ spans qs) q.1 (inl refl)) in
     let (p, j, e) = in_unmap (λ (q : Named). q.1) (named_in h ls) q.1 i in
     let j' : In p (named_in h S) = named_more h ls S p (λ l x. k.to l (in_left ls rest l x)) j in
-    let (l, x, y) = in_unmap first_of S p.1 (in_from_has (map first_of S) p.1 (all_in (λ q. Has (map first_of S) q.1) (named_in h S) p g.named j')) in
+    let (l, x, y) = in_unmap first_of S p.1 (in_from_has (map first_of S) p.1 (all_in (λ q. ContainsAt (map first_of S) q.1) (named_in h S) p g.named j')) in
     let w : first_of l ≡ q.1 = y ∙ e in
     in_cases ls rest l ((l : NodeList) × In l rest × (first_of l ≡ q.1)) (k.from l x)
     (λ z. absurd (not_twice b h log S ls rest q qs l g k o w z))
@@ -252,7 +252,7 @@ order_more h ls q qs l o e =
     ∙ ap (λ w. map first_of (ls ++ (l ∷ [])) ++ w) (sym (map-append (λ (q : Named). q.1) qs (named_by l)))
 
 -- where nothing is left in the queue, each reached list is read
-module _ (b : List ℕ) (h : Header) (log : Log) (S ls rest : List NodeList) (stands : All (Stands b h log) S) (ids : Pairwise (λ l m. l.id ≢ m.id) (ls ++ rest))
+module _ (b : List ℕ) (h : Header) (log : Log) (S ls rest : List NodeList) (stands : AllByRecursion (Stands b h log) S) (ids : Pairwise (λ l m. l.id ≢ m.id) (ls ++ rest))
     (from : (l : NodeList) → In l S → In l (ls ++ rest)) (to : (l : NodeList) → In l (ls ++ rest) → In l S) (o : Order h ls []) where
   id_of : (l : NodeList) → In l S → owner b (first_of l) ≡ l.id
   id_of l i = owner_first b h log l (all_in (λ m. Stands b h log m) S l stands i)
@@ -275,7 +275,7 @@ module _ (b : List ℕ) (h : Header) (log : Log) (S ls rest : List NodeList) (st
       subst (λ w. In r w) (o ∙ append-nil (map first_of ls)) j'
 
 -- so no list is left
-all_read : (b : List ℕ) (h : Header) (log : Log) (S ls rest : List NodeList) → All (Stands b h log) S → All (λ l. Reached h S (first_of l)) S
+all_read : (b : List ℕ) (h : Header) (log : Log) (S ls rest : List NodeList) → AllByRecursion (Stands b h log) S → AllByRecursion (λ l. Reached h S (first_of l)) S
     → Pairwise (λ l m. l.id ≢ m.id) (ls ++ rest) → ((l : NodeList) → In l S → In l (ls ++ rest)) → ((l : NodeList) → In l (ls ++ rest) → In l S) → Order h ls [] → rest ≡ []
 all_read b h log S ls [] stands reached ids from to o = refl
 all_read b h log S ls (l ∷ rest) stands reached ids from to o =

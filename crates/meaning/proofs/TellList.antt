@@ -1,6 +1,6 @@
 -- What reading a list tells: the list stands, or this is the first rule that it breaks.
 use Rattle.std.proofs.Common.{◌≡◌, ℕ, zero, suc, ◌+◌, ◌-◌, ◌<◌, ◌≤◌, true, eqb, ◌⊎◌, List, [], ◌∷◌, ◌++◌, map, length, sym, refl, subst, inl, inr, arith}
-use Rattle.std.specs.List.{ContainsAt as Has}
+use Rattle.std.specs.List.{ContainsAt}
 use Rattle.std.proofs.lemmas.List.{append_assoc, length-append, length_push}
 use Rattle.std.proofs.lemmas.Bool.{cond_both, both_ways, eqb-true, eqb-false}
 use Rattle.model.specs.declared.types.Span.{Span}
@@ -38,7 +38,7 @@ module _ (b : List ℕ) (h : Header) (log : Log) (ls : List NodeList) (first : S
   -- the list is right in its fragments first, gs and its nodes ns, the last of which ends at q
   record SoRight (gs : List Span) (ns : List Node) (q : ℕ) : Type 0 where
     pub part : PartOfList b h id (first ∷ gs) ns q
-    pub new : Has (map (λ l. l.id) ls) id → ⊥
+    pub new : ContainsAt (map (λ l. l.id) ls) id → ⊥
     pub apart : Pairwise Apart (header_span ∷ (before ++ (first ∷ gs)))
     pub few_lists : length ls < 1024
     pub few : length (before ++ (first ∷ gs)) ≤ 2048
@@ -88,7 +88,7 @@ module _ (b : List ℕ) (h : Header) (log : Log) (ls : List NodeList) (first : S
   pub record Fits (l : NodeList) : Type 0 where
     pub stands : Stands b h log l
     pub is_first : first_of l ≡ first
-    pub new : Has (map (λ m. m.id) ls) l.id → ⊥
+    pub new : ContainsAt (map (λ m. m.id) ls) l.id → ⊥
     pub apart : Pairwise Apart (header_span ∷ (before ++ l.fragments))
     pub few : length (before ++ l.fragments) ≤ 2048
 
@@ -176,7 +176,7 @@ module _ (b : List ℕ) (h : Header) (log : Log) (ls : List NodeList) (first : S
       (λ w. inl (first_unmarked few g (λ m. both_ways _ (marked_passes b id 0 first m.0 m.1) w))) (λ w.
       let (mark, real) = passes_marked b id 0 first w in
       cond_both (taken id ls) _ _ (ListTells field) (λ t. inl (twice few g mark real (taken_has id ls t))) (λ t.
-      let new : Has (map (λ l. l.id) ls) id → ⊥ = λ x. both_ways (taken id ls) t (has_taken id ls x) in
+      let new : ContainsAt (map (λ l. l.id) ls) id → ⊥ = λ x. both_ways (taken id ls) t (has_taken id ls x) in
       cond_both (eqb count 0) _ _ (ListTells field) (λ c. inl (unlisted few g mark real new (eqb-true count 0 c))) (λ c.
       let some = eqb-false count 0 c in
       let right : SoRight [] [] (nodes_from first) = record {

@@ -1,6 +1,6 @@
 -- What reading a log tells: the log is right, or this is the first rule that it breaks.
 use Rattle.std.proofs.Common.{◌≡◌, ℕ, zero, suc, ◌+◌, ◌<◌, ◌≤◌, false, not, eqb, leb, ◌≢◌, List, [], ◌∷◌, ◌++◌, map, length, sym, refl, ap, ◌∙◌, subst, arith}
-use Rattle.std.specs.List.{AllByRecursion as All}
+use Rattle.std.specs.List.{AllByRecursion}
 use Rattle.std.proofs.lemmas.List.{append_assoc, append-nil, length_push}
 use Rattle.std.proofs.lemmas.Bool.Decides.{nat_tests}
 use Rattle.std.proofs.lemmas.Bool.{cond_both, eqb-true, eqb-false, leb-true, leb-false}
@@ -37,7 +37,7 @@ row_count : (ts : List (List Entry)) (pending : List Entry) (e : Entry) → row 
 row_count ts pending e = sym (append_assoc (flat (map closed ts)) pending (e ∷ []))
 
 pub record Fair (ts : List (List Entry)) (pending : List Entry) : Type 0 where
-  pub lists : All CountsLists ts
+  pub lists : AllByRecursion CountsLists ts
   pub pending_lists : CountsLists pending
   pub rising : Rising [] (flat ts ++ pending)
 

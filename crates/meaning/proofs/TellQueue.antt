@@ -1,6 +1,6 @@
 -- What reading the lists tells: they stand, in the order in which they are named, or this is the first rule that is broken.
 use Rattle.std.proofs.Common.{◌≡◌, ℕ, zero, suc, ◌+◌, ◌-◌, ◌<◌, ◌≤◌, ◌≢◌, List, [], ◌∷◌, ◌++◌, map, length, take, drop, sym, refl, ap, ◌∙◌, subst, inl, arith}
-use Rattle.std.specs.List.{ContainsAt as Has, AllByRecursion as All}
+use Rattle.std.specs.List.{ContainsAt, AllByRecursion}
 use Rattle.std.proofs.lemmas.List.{append_assoc, append-nil, length_push, take-append-drop}
 use Rattle.std.proofs.lemmas.Bool.{cond_both}
 use Rattle.std.proofs.ByRecursion.{All-append, All-weaker}
@@ -23,7 +23,7 @@ use Rattle.meaning.proofs.ReadQueue.{spans, order_more, fields_more}
 use Rattle.meaning.proofs.TellList.{Fits, NamedBreaks, ListTells, list_told}
 
 -- what is named is reached
-named_reached : (h : Header) (ls : List NodeList) (q : Named) → All (λ l. Reached h ls (first_of l)) ls → In q (named_in h ls) → Reached h ls q.1
+named_reached : (h : Header) (ls : List NodeList) (q : Named) → AllByRecursion (λ l. Reached h ls (first_of l)) ls → In q (named_in h ls) → Reached h ls q.1
 named_reached h ls q a i = in_cases (named_first h) (flat (map named_by ls)) q (Reached h ls q.1) i
     (λ j. by_header (has_from_in (spans (named_first h)) q.1 (in_map (λ (q : Named). q.1) (named_first h) q j)))
     (λ j. let (l, k, m) = in_unflat named_by ls q j in
@@ -37,9 +37,9 @@ reached_more h ls ms r (by_node {l = l} x y z) = by_node {l = l} (has_from_in (l
 in_drop : {X : Type 0} (n : ℕ) (xs : List X) (q : X) (qs : List X) → q ∷ qs ≡ drop n xs → In q xs
 in_drop n xs q qs e = subst (λ w. In q w) (take-append-drop n xs) (in_right (take n xs) (drop n xs) q (subst (λ w. In q w) e (inl refl)))
 
-ids_push : (ls : List NodeList) (l : NodeList) → Pairwise (λ l m. l.id ≢ m.id) ls → (Has (map (λ m. m.id) ls) l.id → ⊥) → Pairwise (λ l m. l.id ≢ m.id) (ls ++ (l ∷ []))
+ids_push : (ls : List NodeList) (l : NodeList) → Pairwise (λ l m. l.id ≢ m.id) ls → (ContainsAt (map (λ m. m.id) ls) l.id → ⊥) → Pairwise (λ l m. l.id ≢ m.id) (ls ++ (l ∷ []))
 ids_push ls l p t = pairs_join (λ (l m : NodeList). l.id ≢ m.id) ls (l ∷ []) p (tt, tt)
-    (all_from_in (λ (k : NodeList). All (λ (m : NodeList). k.id ≢ m.id) (l ∷ [])) ls (λ k i. (
+    (all_from_in (λ (k : NodeList). AllByRecursion (λ (m : NodeList). k.id ≢ m.id) (l ∷ [])) ls (λ k i. (
       λ e. t (has_from_in (map (λ (m : NodeList). m.id) ls) l.id (subst (λ z. In z (map (λ (m : NodeList). m.id) ls)) e (in_map (λ (m : NodeList). m.id) ls k i))),
       tt,
     )))

@@ -1,6 +1,6 @@
 -- The first broken rule: what a refused file is. Each case says that all before it is right, and what is wrong then, and where.
 use Rattle.std.specs.Prelude.{◌≡◌, ℕ, ◌+◌, ◌<◌, ◌≤◌, true, false, ◌≢◌, List, [], ◌∷◌, ◌++◌, map, length, drop}
-use Rattle.std.specs.List.{ContainsAt as Has, AllByRecursion as All}
+use Rattle.std.specs.List.{ContainsAt, AllByRecursion}
 use Rattle.model.specs.declared.types.Span.{Span}
 use Rattle.model.specs.declared.types.Entry.{Entry}
 use Rattle.model.specs.declared.types.Fault.{Fault}
@@ -23,12 +23,12 @@ use Rattle.model.specs.Means.{Apart, Pairwise, Inside, Headed, PartOfLog, Logs, 
 pub data Misplaced (least end layer list : ℕ) (field : ℕ) (before : List Span) (f : Span) : Fault → Type 0 where
   outside : (Inside least end f → ⊥) → Misplaced least end layer list field before f (fault 5 layer field list)
   full : Inside least end f → 2048 ≤ length before → Misplaced least end layer list field before f (fault 13 layer field list)
-  overlap : Inside least end f → length before < 2048 → (All (Apart f) (header_span ∷ before) → ⊥) → Misplaced least end layer list field before f (fault 11 layer field list)
+  overlap : Inside least end f → length before < 2048 → (AllByRecursion (Apart f) (header_span ∷ before) → ⊥) → Misplaced least end layer list field before f (fault 11 layer field list)
 
 pub record Placed (least end : ℕ) (before : List Span) (f : Span) : Type 0 where
   pub inside : Inside least end f
   pub room : length before < 2048
-  pub apart : All (Apart f) (header_span ∷ before)
+  pub apart : AllByRecursion (Apart f) (header_span ∷ before)
 
 -- ---- log
 
@@ -59,8 +59,8 @@ pub data LogBreaks (b : List ℕ) (h : Header) : Fault → Type 0 where
 
 -- the lists ls are right, in the order in which they are named, and `queue` is named behind them
 pub record Walked (b : List ℕ) (h : Header) (log : Log) (ls : List NodeList) (queue : List Named) : Type 0 where
-  pub lists : All (Stands b h log) ls
-  pub reached : All (λ l. Reached h ls (first_of l)) ls
+  pub lists : AllByRecursion (Stands b h log) ls
+  pub reached : AllByRecursion (λ l. Reached h ls (first_of l)) ls
   pub order : map (λ q. q.1) (named_in h ls) ≡ map first_of ls ++ map (λ q. q.1) queue
   pub fields : queue ≡ drop (length ls) (named_in h ls)
   pub ids_differ : Pairwise (λ l m. l.id ≢ m.id) ls
@@ -76,14 +76,14 @@ pub data FirstBreaks (b : List ℕ) (h : Header) (log : Log) (ls : List NodeList
   unmarked : length ls < 1024 → Placed 36 h.end (log.fragments ++ list_fragments ls) f
       → (Marked b (owner b f) 0 f × (16 ≤ owner b f) → ⊥) → FirstBreaks b h log ls field f (fault 8 3 f.start 0)
   twice : length ls < 1024 → Placed 36 h.end (log.fragments ++ list_fragments ls) f → Marked b (owner b f) 0 f → 16 ≤ owner b f
-      → Has (map (λ l. l.id) ls) (owner b f) → FirstBreaks b h log ls field f (fault 12 3 f.start (owner b f))
+      → ContainsAt (map (λ l. l.id) ls) (owner b f) → FirstBreaks b h log ls field f (fault 12 3 f.start (owner b f))
   unlisted : length ls < 1024 → Placed 36 h.end (log.fragments ++ list_fragments ls) f → Marked b (owner b f) 0 f → 16 ≤ owner b f
-      → (Has (map (λ l. l.id) ls) (owner b f) → ⊥) → count_in log.transactions (owner b f) ≡ 0 → FirstBreaks b h log ls field f (fault 10 3 f.start (owner b f))
+      → (ContainsAt (map (λ l. l.id) ls) (owner b f) → ⊥) → count_in log.transactions (owner b f) ≡ 0 → FirstBreaks b h log ls field f (fault 10 3 f.start (owner b f))
 
 -- a list that is named next, right in its fragments g, gs up to q and not yet at its count: its next node or its next fragment breaks a rule
 pub record HalfRead (b : List ℕ) (h : Header) (log : Log) (ls : List NodeList) (id : ℕ) (g : Span) (gs : List Span) (ns : List Node) (q : ℕ) : Type 0 where
   pub part : PartOfList b h id (g ∷ gs) ns q
-  pub new : Has (map (λ l. l.id) ls) id → ⊥
+  pub new : ContainsAt (map (λ l. l.id) ls) id → ⊥
   pub short : length ns < count_in log.transactions id
   pub apart : Pairwise Apart (header_span ∷ (log.fragments ++ list_fragments ls ++ (g ∷ gs)))
   pub few_lists : length ls < 1024
@@ -110,22 +110,22 @@ data_nodes ls = flat (map (λ l. map (λ n. (l.id, n)) (referring 1 l.nodes)) ls
 
 pub record DataRight (end : ℕ) (fs : List Span) (n : ℕ × Node) : Type 0 where
   pub inside : end_of n.1.reference ≤ end
-  pub apart : All (Apart n.1.reference) (header_span ∷ fs)
+  pub apart : AllByRecursion (Apart n.1.reference) (header_span ∷ fs)
 
 pub data DataBreaks (end : ℕ) (fs : List Span) (n : ℕ × Node) : Fault → Type 0 where
   outside : end < end_of n.1.reference → DataBreaks end fs n (fault 5 3 (field_of n.1) n.0)
-  overlap : end_of n.1.reference ≤ end → (All (Apart n.1.reference) (header_span ∷ fs) → ⊥) → DataBreaks end fs n (fault 11 3 (field_of n.1) n.0)
+  overlap : end_of n.1.reference ≤ end → (AllByRecursion (Apart n.1.reference) (header_span ∷ fs) → ⊥) → DataBreaks end fs n (fault 11 3 (field_of n.1) n.0)
 
 -- ---- the whole
 
 -- f is what the first broken rule tells
 pub data Breaks (b : List ℕ) : Fault → Type 0 where
-  in_header : {f : Fault} (before later : List Check) → All (λ c. c.0 ≡ false) before → header_checks b ≡ before ++ ((true, f) ∷ later) → Breaks b f
+  in_header : {f : Fault} (before later : List Check) → AllByRecursion (λ c. c.0 ≡ false) before → header_checks b ≡ before ++ ((true, f) ∷ later) → Breaks b f
   in_log : {f : Fault} (h : Header) → Headed b h → LogBreaks b h f → Breaks b f
   in_first : {f : Fault} (h : Header) (log : Log) (ls : List NodeList) (q : Named) (qs : List Named) → Headed b h → Logs b h log
       → Walked b h log ls (q ∷ qs) → FirstBreaks b h log ls q.0 q.1 f → Breaks b f
   in_list : {f : Fault} (h : Header) (log : Log) (ls : List NodeList) (q : Named) (qs : List Named) → Headed b h → Logs b h log
       → Walked b h log ls (q ∷ qs) → RestBreaks b h log ls q.1 f → Breaks b f
   in_data : {f : Fault} (h : Header) (log : Log) (ls : List NodeList) (before later : List (ℕ × Node)) (n : ℕ × Node) → Headed b h → Logs b h log
-      → Walked b h log ls [] → data_nodes ls ≡ before ++ (n ∷ later) → All (DataRight h.end (log.fragments ++ list_fragments ls)) before
+      → Walked b h log ls [] → data_nodes ls ≡ before ++ (n ∷ later) → AllByRecursion (DataRight h.end (log.fragments ++ list_fragments ls)) before
       → DataBreaks h.end (log.fragments ++ list_fragments ls) n f → Breaks b f

@@ -1,6 +1,6 @@
 -- A row of bytes: the numbers in it, what one write and a list of writes leave of it, and where two rows agree.
 use Rattle.std.specs.Prelude.{◌≡◌, ℕ, zero, suc, ◌+◌, ◌*◌, ◌/◌, ◌%◌, ◌<◌, ◌≤◌, Bool, true, false, ◌&&◌, List, [], ◌∷◌, ◌++◌, length, take, drop, ◌==◌, slice_index}
-use Rattle.std.specs.List.{AllByRecursion as All}
+use Rattle.std.specs.List.{AllByRecursion}
 
 -- the number of n bytes at p, the lowest byte first; a byte past the end counts as 0
 unfoldable pub le : ℕ → List ℕ → ℕ → ℕ
@@ -46,7 +46,7 @@ behind w = w.place + length w.new
 
 -- each number of a row is a byte
 abbrev pub Bytes : List ℕ → Type 0
-Bytes b = All (λ x. x < 256) b
+Bytes b = AllByRecursion (λ x. x < 256) b
 
 -- two rows have the same bytes from lo up to hi
 abbrev pub Same : List ℕ → List ℕ → ℕ → ℕ → Type 0

@@ -1,6 +1,6 @@
 -- Laws above the definitions, each a statement to be proved and named by a contract.
 use Rattle.std.specs.Prelude.{◌≡◌, ℕ, ◌+◌, ◌-◌, ◌*◌, ◌<◌, ◌≤◌, max, false, ◌↔◌, List, [], ◌∷◌, ◌++◌, length, Some, None, Option, slice_index}
-use Rattle.std.specs.List.{ContainsAt as Has, AllByRecursion as All}
+use Rattle.std.specs.List.{ContainsAt, AllByRecursion}
 use Rattle.model.specs.declared.types.Span.{Span}
 use Rattle.model.specs.declared.types.Fault.{Fault}
 use Rattle.model.specs.Bytes.{Write, applied, behind, Bytes}
@@ -32,7 +32,7 @@ pub record SameLists (s t : Section) : Type 0 where
   pub header : t.header ≡ s.header
   pub log : t.log ≡ s.log
   pub number : length t.lists ≡ length s.lists
-  pub lists : All (λ l. Has t.lists l) s.lists
+  pub lists : AllByRecursion (λ l. ContainsAt t.lists l) s.lists
 
 abbrev pub MeantOpens : Type 0
 MeantOpens = (b : List ℕ) (s : Section) → Means b s → (t : Section) × (opened b ≡ done t) × SameLists s t
@@ -64,16 +64,16 @@ log_footprint l =
 
 pub data Footprint (s : Section) (i : ℕ) : Type 0 where
   in_header : Within header_span i → Footprint s i
-  in_log : {r : Span} → Has (log_footprint s.log) r → Within r i → Footprint s i
-  in_list : {l : NodeList} {r : Span} → Has s.lists l → Has (list_footprint l) r → Within r i → Footprint s i
-  in_data : {r : Span} → Has (data_spans s.lists) r → Within r i → Footprint s i
+  in_log : {r : Span} → ContainsAt (log_footprint s.log) r → Within r i → Footprint s i
+  in_list : {l : NodeList} {r : Span} → ContainsAt s.lists l → ContainsAt (list_footprint l) r → Within r i → Footprint s i
+  in_data : {r : Span} → ContainsAt (data_spans s.lists) r → Within r i → Footprint s i
 
 -- where a draft writes: behind the file's end; in a list's last fragment from behind its last node through the next reference;
 -- in the last log fragment from behind the last finished sentinel through the next reference
 pub data Free (s : Section) (i : ℕ) : Type 0 where
   past_end : s.header.end ≤ i → Free s i
   in_log : entry_place (last_fragment s.log.fragments) s.log.used ≤ i → i < log_next (last_fragment s.log.fragments) + 12 → Free s i
-  in_list : {l : NodeList} → Has s.lists l → l.free ≤ i → i < end_of (last_fragment l.fragments) - 8 → Free s i
+  in_list : {l : NodeList} → ContainsAt s.lists l → l.free ≤ i → i < end_of (last_fragment l.fragments) - 8 → Free s i
 
 -- bytes that agree on the footprint, and reach the end, are the same file: opened alike, and looked at alike
 abbrev pub Local : Type 0
@@ -93,7 +93,7 @@ WritesFree s w = (i : ℕ) → w.place ≤ i → i < behind w → Free s i
 -- adds that were all done, one after the other, over the same finished file
 abbrev pub DoneAdds : ℕ → Layout → List Add → Type 0
 DoneAdds ceiling y [] = Unit {0}
-DoneAdds ceiling y (a ∷ as') = FitAdd a × All (λ c. c.0 ≡ false) (add_checks ceiling y a) × DoneAdds ceiling (planned y a).layout as'
+DoneAdds ceiling y (a ∷ as') = FitAdd a × AllByRecursion (λ c. c.0 ≡ false) (add_checks ceiling y a) × DoneAdds ceiling (planned y a).layout as'
 
 abbrev pub add_writes : Layout → List Add → List Write
 add_writes y [] = []
@@ -111,7 +111,7 @@ WritesTaken = (j : Journal) (c : Call) → Fit c → Taken (length (end_state j)
 -- every write of a draft, and every write of its commit but the header's, lies in the free zone of the file at begin
 abbrev pub DraftsWriteFree : Type 0
 DraftsWriteFree = (b : List ℕ) (ceiling : ℕ) (s : Section) (adds : List Add) → Bytes b → opened b ≡ done s → DoneAdds ceiling (blank s) adds
-    → All (WritesFree s) (add_writes (blank s) adds ++ (logged s (layout s adds)).writes)
+    → AllByRecursion (WritesFree s) (add_writes (blank s) adds ++ (logged s (layout s adds)).writes)
 
 -- a commit's writes, over the bytes that a draft has left, make a file that is accepted, with the count one higher, the new end, and in each list
 -- what it held, then the draft's nodes
@@ -126,13 +126,13 @@ pub record CommitsTo (b : List ℕ) (s : Section) (adds : List Add) (c : List �
 
 abbrev pub CommitReads : Type 0
 CommitReads = (b : List ℕ) (ceiling : ℕ) (s : Section) (adds : List Add) (guid : List ℕ) → Bytes b → Bytes guid → length guid ≡ 16
-    → opened b ≡ done s → DoneAdds ceiling (blank s) adds → All (λ c. c.0 ≡ false) (commit_checks ceiling s adds guid)
+    → opened b ≡ done s → DoneAdds ceiling (blank s) adds → AllByRecursion (λ c. c.0 ≡ false) (commit_checks ceiling s adds guid)
     → CommitsTo b s adds (applied (applied b (add_writes (blank s) adds)) (committing (applied b (add_writes (blank s) adds)) s adds guid)) guid
 
 -- growth: over a commit each look to a k up to the old count answers as before
 abbrev pub LooksGrow : Type 0
 LooksGrow = (b : List ℕ) (ceiling : ℕ) (s : Section) (adds : List Add) (guid : List ℕ) → Bytes b → Bytes guid → length guid ≡ 16
-    → opened b ≡ done s → DoneAdds ceiling (blank s) adds → All (λ c. c.0 ≡ false) (commit_checks ceiling s adds guid)
+    → opened b ≡ done s → DoneAdds ceiling (blank s) adds → AllByRecursion (λ c. c.0 ≡ false) (commit_checks ceiling s adds guid)
     → (l : Look) → 1 ≤ looks_to l → looks_to l ≤ s.header.count
     → look (applied (applied b (add_writes (blank s) adds)) (committing (applied b (add_writes (blank s) adds)) s adds guid)) l ≡ look b l
 

@@ -1,6 +1,6 @@
 -- What an accepted file is: a relation between bytes and what they hold. Nothing here walks, queues or refuses.
 use Rattle.std.specs.Prelude.{◌≡◌, ℕ, zero, suc, ◌+◌, ◌-◌, ◌^◌, ◌<◌, ◌≤◌, true, ◌≢◌, List, [], ◌∷◌, ◌++◌, map, length}
-use Rattle.std.specs.List.{ContainsAt as Has, AllByRecursion as All}
+use Rattle.std.specs.List.{ContainsAt, AllByRecursion}
 use Rattle.model.specs.declared.types.Span.{Span}
 use Rattle.model.specs.declared.types.Entry.{Entry}
 use Rattle.model.specs.declared.types.Header.{Header}
@@ -25,7 +25,7 @@ Apart r s = (i : ℕ) → Within r i → Within s i → ⊥
 -- R holds of each two of a list, the earlier first
 abbrev pub Pairwise : {A : Type 0} → (A → A → Type 0) → List A → Type 0
 Pairwise R [] = Unit {0}
-Pairwise R (x ∷ xs) = All (R x) xs × Pairwise R xs
+Pairwise R (x ∷ xs) = AllByRecursion (R x) xs × Pairwise R xs
 
 -- a fragment of the least size at least (so its reference is not absent), by the file's end
 abbrev pub Inside : ℕ → ℕ → Span → Type 0
@@ -67,7 +67,7 @@ abbrev pub closed : List Entry → List Entry
 closed t = t ++ (sentinel t ∷ [])
 
 abbrev pub CountsLists : List Entry → Type 0
-CountsLists es = All (λ e. e.source ≢ 1) es
+CountsLists es = AllByRecursion (λ e. e.source ≢ 1) es
 
 -- each entry's count is above the list's last in the entries before it, 0 at first
 abbrev pub Rising : List Entry → List Entry → Type 0
@@ -78,12 +78,12 @@ Rising before (e ∷ es) = (latest e.source 0 before < e.number) × Rising (befo
 -- and then the entries `pending`
 pub record PartOfLog (b : List ℕ) (h : Header) (fs : List Span) (used : ℕ) (ts : List (List Entry)) (pending : List Entry) : Type 0 where
   pub chain : Chain (λ f. span_at b (log_next f)) h.log fs
-  pub inside : All (Inside 12 h.end) fs
+  pub inside : AllByRecursion (Inside 12 h.end) fs
   pub apart : Pairwise Apart (header_span ∷ fs)
   pub few : length fs ≤ 2048
   pub places : used ≤ entries_in (last_of (span 0 0) fs).size
   pub row : log_row b fs used ≡ flat (map closed ts) ++ pending
-  pub lists : All CountsLists ts
+  pub lists : AllByRecursion CountsLists ts
   pub pending_lists : CountsLists pending
   pub rising : Rising [] (flat ts ++ pending)
 
@@ -131,7 +131,7 @@ Numbered b id i (f ∷ fs) = Marked b id i f × Numbered b id (i + 1) fs
 
 -- a list as far as it is right: its fragments, and the nodes in them, the last of which ends at q
 pub record PartOfList (b : List ℕ) (h : Header) (id : ℕ) (fs : List Span) (ns : List Node) (q : ℕ) : Type 0 where
-  pub inside : All (Inside 36 h.end) fs
+  pub inside : AllByRecursion (Inside 36 h.end) fs
   pub marks : Numbered b id 0 fs
   pub real : 16 ≤ id
   pub spread : Spread b fs ns q
@@ -150,8 +150,8 @@ named_in h ls = named_first h ++ flat (map named_by ls)
 
 -- a list is reached if the header names it, or a counted node of a list that is reached
 pub data Reached (h : Header) (ls : List NodeList) : Span → Type 0 where
-  by_header : {r : Span} → Has (map (λ q. q.1) (named_first h)) r → Reached h ls r
-  by_node : {r : Span} {l : NodeList} → Has ls l → Reached h ls (first_of l) → Has (map (λ q. q.1) (named_by l)) r → Reached h ls r
+  by_header : {r : Span} → ContainsAt (map (λ q. q.1) (named_first h)) r → Reached h ls r
+  by_node : {r : Span} {l : NodeList} → ContainsAt ls l → Reached h ls (first_of l) → ContainsAt (map (λ q. q.1) (named_by l)) r → Reached h ls r
 
 abbrev pub data_spans : List NodeList → List Span
 data_spans ls = flat (map (λ l. map (λ n. n.reference) (referring 1 l.nodes)) ls)
@@ -162,15 +162,15 @@ data_spans ls = flat (map (λ l. map (λ n. n.reference) (referring 1 l.nodes)) 
 pub record Means (b : List ℕ) (s : Section) : Type 0 where
   pub header : Headed b s.header
   pub log : Logs b s.header s.log
-  pub lists : All (Stands b s.header s.log) s.lists
+  pub lists : AllByRecursion (Stands b s.header s.log) s.lists
   -- the lists are the reached ones, and each is named once
-  pub reached : All (λ l. Reached s.header s.lists (first_of l)) s.lists
-  pub named : All (λ q. Has (map first_of s.lists) q.1) (named_in s.header s.lists)
+  pub reached : AllByRecursion (λ l. Reached s.header s.lists (first_of l)) s.lists
+  pub named : AllByRecursion (λ q. ContainsAt (map first_of s.lists) q.1) (named_in s.header s.lists)
   pub once : length (named_in s.header s.lists) ≡ length s.lists
   pub ids_differ : Pairwise (λ l m. l.id ≢ m.id) s.lists
   pub fragments_apart : Pairwise Apart (header_span ∷ fragments_of s)
-  pub data_inside : All (λ r. end_of r ≤ s.header.end) (data_spans s.lists)
-  pub data_apart : All (λ r. All (Apart r) (header_span ∷ fragments_of s)) (data_spans s.lists)
+  pub data_inside : AllByRecursion (λ r. end_of r ≤ s.header.end) (data_spans s.lists)
+  pub data_apart : AllByRecursion (λ r. AllByRecursion (Apart r) (header_span ∷ fragments_of s)) (data_spans s.lists)
   pub few_lists : length s.lists ≤ 1024
   pub few_fragments : length (fragments_of s) ≤ 2048
 

@@ -1,6 +1,6 @@
 -- Fragments with one more at the end, and what filters keep of a list's fragments up to a place and behind it.
 use Rattle.std.proofs.Common.{◌≡◌, ℕ, ◌≤◌, Bool, true, false, cond, not, eqb, leb, List, [], ◌∷◌, ◌++◌, is_some, Some, None, filter, Option, sym, refl, ap, ◌∙◌, inl, inr, arith}
-use Rattle.std.specs.List.{AllByRecursion as All}
+use Rattle.std.specs.List.{AllByRecursion}
 use Rattle.std.proofs.lemmas.List.Elements.{filter-append}
 use Rattle.std.proofs.ByRecursion.{All-weaker}
 use Rattle.std.proofs.lemmas.List.{append-nil, append_cancel_left}
@@ -10,16 +10,16 @@ use Rattle.pieces.specs.declared.piece.Piece.{Piece}
 use Rattle.pieces.specs.Found.{of_list, some_of, last_piece, behind, put_in, freed}
 use Rattle.pieces.specs.Placed.{up_to}
 
-pub kept_all : {X : Type 0} (p : X → Bool) (xs : List X) → All (λ x. p x ≡ true) xs → filter p xs ≡ xs
+pub kept_all : {X : Type 0} (p : X → Bool) (xs : List X) → AllByRecursion (λ x. p x ≡ true) xs → filter p xs ≡ xs
 kept_all p [] a = refl
 kept_all p (x ∷ xs) (e, a) = rw e (ap (λ ys. x ∷ ys) (kept_all p xs a))
 
-pub kept_none : {X : Type 0} (p : X → Bool) (xs : List X) → All (λ x. p x ≡ false) xs → filter p xs ≡ []
+pub kept_none : {X : Type 0} (p : X → Bool) (xs : List X) → AllByRecursion (λ x. p x ≡ false) xs → filter p xs ≡ []
 kept_none p [] a = refl
 kept_none p (x ∷ xs) (e, a) = rw e (kept_none p xs a)
 
 -- one more, with no fewer nodes before it than any other, stands behind all
-pub behind_all : (p : Piece) (ps : List Piece) → All (λ q. q.from ≤ p.from) ps → behind p ps ≡ ps ++ (p ∷ [])
+pub behind_all : (p : Piece) (ps : List Piece) → AllByRecursion (λ q. q.from ≤ p.from) ps → behind p ps ≡ ps ++ (p ∷ [])
 behind_all p ps a =
     let front : filter (λ q. leb q.from p.from) ps ≡ ps = kept_all _ ps (All-weaker _ _ (λ q h. grind (arith, nat_tests)) ps a) in
     let back : filter (λ q. not (leb q.from p.from)) ps ≡ [] = kept_none _ ps (All-weaker _ _ (λ q h. grind (arith, nat_tests)) ps a) in
@@ -49,23 +49,23 @@ freed_push free (q ∷ (r ∷ ps)) p = ap (λ xs. q ∷ xs) (freed_push free (r 
 
 -- what stands up to a place, of the list of that place
 module _ (id from : ℕ) where
-  pub low_front : (xs : List Piece) → All (λ q. up_to id from q ≡ true) xs → filter (λ q. leb q.from from) (of_list id xs) ≡ of_list id xs
+  pub low_front : (xs : List Piece) → AllByRecursion (λ q. up_to id from q ≡ true) xs → filter (λ q. leb q.from from) (of_list id xs) ≡ of_list id xs
   low_front [] a = refl
   low_front (x ∷ xs) (e, a) = let ih = low_front xs a in grind (arith, nat_tests)
 
-  pub low_back : (xs : List Piece) → All (λ q. up_to id from q ≡ false) xs → filter (λ q. leb q.from from) (of_list id xs) ≡ []
+  pub low_back : (xs : List Piece) → AllByRecursion (λ q. up_to id from q ≡ false) xs → filter (λ q. leb q.from from) (of_list id xs) ≡ []
   low_back [] a = refl
   low_back (x ∷ xs) (e, a) = let ih = low_back xs a in grind (arith, nat_tests)
 
-  pub high_front : (xs : List Piece) → All (λ q. up_to id from q ≡ true) xs → filter (λ q. not (leb q.from from)) (of_list id xs) ≡ []
+  pub high_front : (xs : List Piece) → AllByRecursion (λ q. up_to id from q ≡ true) xs → filter (λ q. not (leb q.from from)) (of_list id xs) ≡ []
   high_front [] a = refl
   high_front (x ∷ xs) (e, a) = let ih = high_front xs a in grind (arith, nat_tests)
 
-  pub high_back : (xs : List Piece) → All (λ q. up_to id from q ≡ false) xs → filter (λ q. not (leb q.from from)) (of_list id xs) ≡ of_list id xs
+  pub high_back : (xs : List Piece) → AllByRecursion (λ q. up_to id from q ≡ false) xs → filter (λ q. not (leb q.from from)) (of_list id xs) ≡ of_list id xs
   high_back [] a = refl
   high_back (x ∷ xs) (e, a) = let ih = high_back xs a in grind (arith, nat_tests)
 
-  module _ (xs ys : List Piece) (front : All (λ q. up_to id from q ≡ true) xs) (back : All (λ q. up_to id from q ≡ false) ys) where
+  module _ (xs ys : List Piece) (front : AllByRecursion (λ q. up_to id from q ≡ true) xs) (back : AllByRecursion (λ q. up_to id from q ≡ false) ys) where
     whole : of_list id (xs ++ ys) ≡ of_list id xs ++ of_list id ys
     whole = filter-append (λ q. eqb q.list id) xs ys
 
@@ -82,7 +82,7 @@ module _ (id from : ℕ) where
         ∙ rw (high_front xs front, high_back ys back) refl
 
 -- one more at its place
-pub put_between : (p : Piece) (xs ys : List Piece) → All (λ q. up_to p.list p.from q ≡ true) xs → All (λ q. up_to p.list p.from q ≡ false) ys
+pub put_between : (p : Piece) (xs ys : List Piece) → AllByRecursion (λ q. up_to p.list p.from q ≡ true) xs → AllByRecursion (λ q. up_to p.list p.from q ≡ false) ys
     → (id : ℕ) → of_list id (xs ++ (p ∷ ys)) ≡ put_in p id (of_list id (xs ++ ys))
 put_between p xs ys front back id =
     let more = filter-append (λ (q : Piece). eqb q.list id) xs (p ∷ ys) in

@@ -1,6 +1,6 @@
 -- Fragments in order: what a search finds, and what one more leaves in order.
 use Rattle.std.proofs.Common.{◌≡◌, ℕ, suc, ◌+◌, ◌-◌, ◌^◌, ◌<◌, ◌≤◌, true, false, cond, eqb, leb, List, [], ◌∷◌, ◌++◌, length, get_or, take, drop, set, Some, None, filter, sym, refl, ap, ◌∙◌, subst, inl, inr, arith}
-use Rattle.std.specs.List.{AllByRecursion as All, insert}
+use Rattle.std.specs.List.{AllByRecursion, insert}
 use Rattle.std.proofs.lemmas.List.Elements.{filter_more}
 use Rattle.std.proofs.ByRecursion.{All-from_get_or, all_kept_by}
 use Rattle.std.proofs.lemmas.List.{take-append-drop, get_or-take, get_or-drop, length-take-le, length-drop, get_or_read_under, get_or-set_same, get_or-set_other, set-get_or, set_split}
@@ -58,14 +58,14 @@ module _ (ps : List Piece) (n : ℕ) (ordered : Ordered ps n) where
 
   module _ (long : n ≡ length ps) (id from i : ℕ) (place : Place id from ps n i) where
     -- the place splits them
-    front : All (λ q. up_to id from q ≡ true) (take i ps)
+    front : AllByRecursion (λ q. up_to id from q ≡ true) (take i ps)
     front = All-from_get_or _ (take i ps) no_piece (λ k h.
         let w = place.within in
         let t = length-take-le i ps (omega arith) in
         let l : k < i = omega arith in
         rw (get_or-take i ps k no_piece l) (place.below k l))
 
-    back : All (λ q. up_to id from q ≡ false) (drop i ps)
+    back : AllByRecursion (λ q. up_to id from q ≡ false) (drop i ps)
     back = All-from_get_or _ (drop i ps) no_piece (λ k h.
         let t = length-drop i ps in
         rw (get_or-drop i ps k no_piece) (place.above (i + k) (omega arith) (omega arith)))

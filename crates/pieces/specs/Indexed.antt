@@ -1,6 +1,6 @@
 -- Where a list's nodes stand, as they are found again: for each fragment how many nodes come before it, and where its own end.
 use Rattle.std.specs.Prelude.{◌≡◌, ℕ, ◌+◌, false, List, [], ◌∷◌, ◌++◌, length}
-use Rattle.std.specs.List.{AllByRecursion as All}
+use Rattle.std.specs.List.{AllByRecursion}
 use Rattle.model.specs.declared.types.Span.{Span}
 use Rattle.model.specs.Nodes.{Node}
 use Rattle.model.specs.ListFragments.{nodes_from, nodes_to}
@@ -22,5 +22,5 @@ pub data Pieced (b : List ℕ) (id : ℕ) : ℕ → ℕ → List Span → List N
 
 -- each list's pieces are found under its ID, and no others
 pub record Indexed (b : List ℕ) (ls : List NodeList) (ps : List Piece) : Type 0 where
-  pub each : All (λ l. Pieced b l.id 0 0 l.fragments l.nodes (of_list l.id ps)) ls
+  pub each : AllByRecursion (λ l. Pieced b l.id 0 0 l.fragments l.nodes (of_list l.id ps)) ls
   pub none : (id : ℕ) → taken id ls ≡ false → of_list id ps ≡ []

@@ -1,6 +1,6 @@
 -- What open answers, from what was read.
 use Rattle.std.proofs.Common.{◌≡◌, ℕ, ◌+◌, ◌*◌, ◌^◌, ◌<◌, ◌≤◌, false, List, [], ◌∷◌, ◌++◌, length, is_some, Some, None, vec_items, Option, sym, refl, ap, ◌∙◌, subst, add-mul, mul-le-mul, arith}
-use Rattle.std.specs.List.{AllByRecursion as All}
+use Rattle.std.specs.List.{AllByRecursion}
 use Rattle.std.proofs.lemmas.List.{length-append}
 use Rattle.model.specs.declared.types.Span.{Span}
 use Rattle.model.specs.declared.types.Header.{Header}
@@ -28,7 +28,7 @@ sizes_both end xs ys a c =
     let l : length (xs ++ ys) * end ≡ length xs * end + length ys * end = ap (λ n. n * end) (length-append xs ys) ∙ add-mul (length xs) (length ys) end in
     omega arith
 
-sizes_lists : (b : List ℕ) (h : Header) (log : Log) (ls : List NodeList) → All (Stands b h log) ls → sizes (list_fragments ls) ≤ length (list_fragments ls) * h.end
+sizes_lists : (b : List ℕ) (h : Header) (log : Log) (ls : List NodeList) → AllByRecursion (Stands b h log) ls → sizes (list_fragments ls) ≤ length (list_fragments ls) * h.end
 unfolding sizes
 sizes_lists b h log [] a = omega arith
 sizes_lists b h log (l ∷ ls) (x, a) = sizes_both h.end l.fragments (list_fragments ls) (sizes_inside 36 h.end l.fragments x.part.inside) (sizes_lists b h log ls a)

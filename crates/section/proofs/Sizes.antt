@@ -1,6 +1,6 @@
 -- Sizes of fragments, added up.
 use Rattle.std.proofs.Common.{◌≡◌, ℕ, zero, suc, ◌+◌, ◌-◌, ◌*◌, ◌^◌, ◌<◌, ◌≤◌, min, List, [], ◌∷◌, length, get_or, take, refl, ap, ◌∙◌, add-mul, add-one, arith}
-use Rattle.std.specs.List.{AllByRecursion as All}
+use Rattle.std.specs.List.{AllByRecursion}
 use Rattle.std.proofs.lemmas.List.{take_all}
 use Rattle.model.specs.declared.types.Span.{Span}
 use Rattle.model.specs.Means.{Inside}
@@ -37,7 +37,7 @@ pub used_all : (fs : List Span) (i all : ℕ) → i ≡ length fs → (sizes fs 
 used_all fs i all e a b = a b ∙ ap (λ xs. 1024 + sizes xs) (take_all i fs (omega arith))
 
 -- fragments in a file are not too large together
-pub sizes_inside : (least end : ℕ) (fs : List Span) → All (Inside least end) fs → sizes fs ≤ length fs * end
+pub sizes_inside : (least end : ℕ) (fs : List Span) → AllByRecursion (Inside least end) fs → sizes fs ≤ length fs * end
 unfolding sizes
 sizes_inside least end [] a = omega arith
 sizes_inside least end (f ∷ fs) (x, a) =
