@@ -6,7 +6,7 @@ usage: python3 tools/respell.py        at the top of the repository
 Names of values (functions, lemmas, fields, constructors) go to snake case, names of facts and types to upper camel
 case. Only names that a file of specs/ or proofs/ declares are touched, never the goals that the check names, Rust
 names in src/, strings, or prose: in comments and pages a name is turned where it stands between backquotes.
-It stops, and writes nothing, where two names would fall together.
+It says which names fall together with others; with --look it says so and writes nothing.
 """
 
 import collections

@@ -2,6 +2,7 @@
 #![tactic(auto)]
 
 ghost use Rattle.std.specs.Prelude.{◌≡◌, ◌+◌, ◌^◌, ◌≤◌, ◌&&◌, List, [], ◌==◌};
+ghost use Rattle.model.specs.declared.types.Header.{Header};
 ghost use Rattle.model.specs.Faults.{done};
 ghost use Rattle.model.specs.References.{present};
 ghost use Rattle.model.specs.ListFragments.{nodes_from, nodes_to};
@@ -29,22 +30,25 @@ use tables::room::{Room, Row};
 pub fn check_data<S: Store>(store: &S, checked: &CheckedHeader, room: &Room) -> Result<(), InList>
     ensures { (log : Log) (ls : List NodeList) → Walked (S.Store.bytes store.now) checked.now.header log ls [] → Filed log ls room.now.lists.items room.now.fragments.items → Checked (all_data checked.now.header log ls) result }
 {
+    check_lists(store, checked.header.end, room)
+}
+
+// Those of all lists in a file with this end.
+fn check_lists<S: Store>(store: &S, end: u64, room: &Room) -> Result<(), InList>
+    requires { end ≤ 2 ^ 40 }
+    ensures { (h : Header) (log : Log) (ls : List NodeList) → h.end ≡ end → Walked (S.Store.bytes store.now) h log ls [] → Filed log ls room.now.lists.items room.now.fragments.items → Checked (all_data h log ls) result }
+{
     for k in 0..room.lists.len() {
-        check_list(store, checked, room, room.lists[k])?;
+        check_list(store, end, room, room.lists[k])?;
     }
     Ok(())
 }
 
 // The data references of a list, fragment by fragment. In tables that are in step every fragment is there, and lies in the file.
-fn check_list<S: Store>(
-    store: &S,
-    checked: &CheckedHeader,
-    room: &Room,
-    row: Row,
-) -> Result<(), InList>
-    ensures { (l : NodeList) → Lies (S.Store.bytes store.now) checked.now.header.end row room.now.fragments.items l → Checked (list_data checked.now.header.end room.now.fragments.items l) result }
+fn check_list<S: Store>(store: &S, end: u64, room: &Room, row: Row) -> Result<(), InList>
+    requires { end ≤ 2 ^ 40 }
+    ensures { (l : NodeList) → Lies (S.Store.bytes store.now) end row room.now.fragments.items l → Checked (list_data end room.now.fragments.items l) result }
 {
-    let end = checked.header.end;
     let mut left = row.nodes;
     for at in row.first..row.first.saturating_add(row.fragments) {
         if at >= room.fragments.len() {

@@ -66,8 +66,17 @@ pub fn read_lists<S: Store>(
     ensures answer { (log : Log) → Holds log room.old.counts.changes.items room.old.fragments.items room.old.lists.items → room.old.queue.items ≡ [] → ReadsAll (S.Store.bytes store.now) checked.now.header log room.new.lists.items room.new.fragments.items result }
     ensures counts { room.new.counts ≡ room.old.counts }
 {
-    name_first(&checked.header, room);
-    read_named(store, &checked.header, room)
+    read_all(store, &checked.header, room)
+}
+
+// Reads all lists of a file that is no longer than any may be.
+fn read_all<S: Store>(store: &S, header: &Header, room: &mut Room) -> Result<(), InList>
+    requires { header.now.end ≤ 2 ^ 40 }
+    ensures answer { (log : Log) → Holds log room.old.counts.changes.items room.old.fragments.items room.old.lists.items → room.old.queue.items ≡ [] → ReadsAll (S.Store.bytes store.now) header.now log room.new.lists.items room.new.fragments.items result }
+    ensures counts { room.new.counts ≡ room.old.counts }
+{
+    name_first(header, room);
+    read_named(store, header, room)
 }
 
 // Names the root, and the hashed chunk list unless it is absent.

@@ -56,13 +56,13 @@ module _ (b : List ℕ) (h : Header) (log : Log) (ls : List NodeList) (first : S
   -- nodes ------------------------------------------------------------------------------------------------------------------
 
   -- the list goes on behind q
-  abbrev Goes_on : List Span → List Node → ℕ → Type 0
-  Goes_on gs ns q = SoRight gs ns q × (length ns < count) × (hands_over (le 4 b q) (nodes_to (last_of first gs)) q ≡ true)
+  abbrev GoesOn : List Span → List Node → ℕ → Type 0
+  GoesOn gs ns q = SoRight gs ns q × (length ns < count) × (hands_over (le 4 b q) (nodes_to (last_of first gs)) q ≡ true)
 
   -- what the nodes of the last of first, gs tell
   abbrev NodesTell : List Span → Outcome NodePart → Type 0
   NodesTell gs (done (counted ns q)) = SoRight gs ns q × (length ns ≡ count) × (nodes_from (last_of first gs) < q)
-  NodesTell gs (done (uncounted ns)) = (q : ℕ) × Goes_on gs ns q
+  NodesTell gs (done (uncounted ns)) = (q : ℕ) × GoesOn gs ns q
   NodesTell gs (refused e) = RestBreaks b h log ls first e
 
   nodes_tell : (gs : List Span) (n p : ℕ) (ns : List Node) → SoRight gs ns p → n + length ns ≡ count → nodes_from (last_of first gs) < p + n
@@ -97,7 +97,7 @@ module _ (b : List ℕ) (h : Header) (log : Log) (ls : List NodeList) (first : S
   RestTells (refused e) = RestBreaks b h log ls first e
 
   goes_tell : (n : ℕ) (gs fs : List Span) (f : Span) (a : Outcome NodePart) → fs ++ (f ∷ []) ≡ first ∷ gs → NodesTell gs a
-      → ((ns : List Node) (q : ℕ) → Goes_on gs ns q → RestTells (list_from n b h.end count ls before id (nodes_to f) (span_at b (nodes_to f)) (fs ++ (f ∷ [])) ns))
+      → ((ns : List Node) (q : ℕ) → GoesOn gs ns q → RestTells (list_from n b h.end count ls before id (nodes_to f) (span_at b (nodes_to f)) (fs ++ (f ∷ [])) ns))
       → RestTells (then a (list_goes (list_from n b h.end count ls before id) b id f fs))
   goes_tell n gs fs f (done (counted ns q)) e (s, c, l) k = subst (λ z. Fits (list_is id z ns q)) (sym e) (record {
     stands = record { part = s.part; counted = c; ends = l };
@@ -110,7 +110,7 @@ module _ (b : List ℕ) (h : Header) (log : Log) (ls : List NodeList) (first : S
   goes_tell n gs fs f (refused x) e t k = t
 
   -- a list that goes on in the fragment f behind the last of first, gs
-  rest_tell : (n : ℕ) (gs : List Span) (ns : List Node) (q : ℕ) → Goes_on gs ns q → n + length (before ++ (first ∷ gs)) ≡ 2048
+  rest_tell : (n : ℕ) (gs : List Span) (ns : List Node) (q : ℕ) → GoesOn gs ns q → n + length (before ++ (first ∷ gs)) ≡ 2048
       → RestTells (list_from n b h.end count ls before id (nodes_to (last_of first gs)) (span_at b (nodes_to (last_of first gs))) (first ∷ gs) ns)
   rest_tell zero gs ns q (s, short, o) l =
       let last = last_of first gs in

@@ -21,6 +21,16 @@ pub(crate) fn read_file<S: Store>(
     ensures file { ReadsFile mark (S.Store.bytes store.now) room.old.counts.room room.new result }
     ensures room { room.new.counts.room ≡ room.old.counts.room }
 {
+    // A refused header leaves no lists of an earlier try.
+    room.clear();
+    read_parts(store, mark, room)
+}
+
+// Reads its parts, one after the other.
+fn read_parts<S: Store>(store: &S, mark: u64, room: &mut Room) -> Result<Access, OpenFault>
+    ensures file { ReadsFile mark (S.Store.bytes store.now) room.old.counts.room room.new result }
+    ensures room { room.new.counts.room ≡ room.old.counts.room }
+{
     let checked = check_header(store)?;
     let used = read_log(store, &checked, room)?;
     read_lists(store, &checked, room)?;

@@ -91,6 +91,7 @@ impl Room {
         self.fragments.clear();
         self.lists.clear();
         self.queue.clear();
+        self.pieces.clear();
     }
 
     /// Takes a fragment in, unless it is outside the file, one too many, or shares a byte with the header or another; in this order.
@@ -100,7 +101,18 @@ impl Room {
         ensures lists { self.new.lists ≡ self.old.lists }
         ensures queue { self.new.queue ≡ self.old.queue }
     {
-        if is_outside(kind.least(), end, fragment) {
+        self.admit_from(kind.least(), end, fragment)
+    }
+
+    // The same for a fragment that has at least `least` bytes.
+    fn admit_from(&mut self, least: u64, end: u64, fragment: Span) -> Result<(), Misplaced>
+        requires { 1 ≤ least }
+        ensures answer { Admits least end self.old.fragments.items fragment self.new.fragments.items result }
+        ensures counts { self.new.counts ≡ self.old.counts }
+        ensures lists { self.new.lists ≡ self.old.lists }
+        ensures queue { self.new.queue ≡ self.old.queue }
+    {
+        if is_outside(least, end, fragment) {
             return Err(Misplaced::Outside);
         }
         if self.fragments.len() >= MOST_FRAGMENTS {

@@ -1,7 +1,7 @@
 -- The ranges take up what the fragments take up.
 use Rattle.std.proofs.Common.{arith}
 use Rattle.tables.proofs.Taken.{alike_more}
-use Rattle.tables.proofs.room.Room.admit.Goals as goal
+use Rattle.tables.proofs.room.Room.admit_from.Goals as goal
 
 pub invariant_of-self-2 : goal.invariant_of-self-2
 invariant_of-self-2 c =
