@@ -28,6 +28,3 @@ module _ (d : Card) where
     pub row_set : (v : ℕ) → card_row (set (vec_items d.buffer) (spot (vec_items d.blocks) k) v) (vec_items d.blocks)
         ≡ set (row_of d) k v
     row_set v = card_row_set (vec_items d.buffer) (vec_items d.blocks) k v card_inside d.apart (omega (arith, d.blocks.ok.0))
-
-pub byte_row : (d : Card) (i : ℕ) → i < length (row_of d) → get_or (row_of d) i 0 < 256
-byte_row d i h = let e = row_at d i (omega (arith, length_row d)) in let b = d.byte (spot (vec_items d.blocks) i) in omega arith
