@@ -9,9 +9,13 @@ use Rattle.model.specs.OpenedLists.{named_first, lists_from}
 use Rattle.model.specs.Opened.{all_data}
 use Rattle.model.specs.Breaks.{Walked}
 use Rattle.counts.specs.declared.changes.Change.{Change}
+use Rattle.refusals.specs.declared.faults.LogFault.{LogFault}
+use Rattle.refusals.specs.declared.faults.LogFault.TheVariants as log
+use Rattle.refusals.specs.declared.faults.ListFault.{ListFault}
+use Rattle.refusals.specs.declared.faults.ListFault.TheVariants as list
 use Rattle.refusals.specs.declared.faults.InList.{InList}
 use Rattle.refusals.specs.declared.faults.OpenFault.{OpenFault}
-use Rattle.refusals.specs.Refusals.{list_told, told}
+use Rattle.refusals.specs.Refusals.{log_told, list_fault, list_told, told}
 use Rattle.refusals.specs.Checked.{told_by}
 use Rattle.tables.specs.declared.room.Room.{Room}
 use Rattle.tables.specs.declared.room.Row.{Row}
@@ -24,9 +28,30 @@ use Rattle.section.proofs.Joined.{Right, Logged, holds_log, lists_refused, walke
 use Rattle.section.proofs.Opens.{rows_number}
 
 pub reads_err : (mark : ℕ) (b : List ℕ) (capacity : ℕ) (room : Room) (r : Result Access OpenFault) (e : OpenFault) → IsErrAnd r (λ y. y ≡ e) → opened_in capacity b ≡ refused (told e)
-    → ReadsFile mark b capacity room r
-reads_err mark b capacity room (Ok a) e x t = absurd x
-reads_err mark b capacity room (Err y) e x t = t ∙ ap (λ z. refused (told z)) (sym x)
+    → ((told e).layer ≡ 1 → vec_items room.lists ≡ []) → ReadsFile mark b capacity room r
+reads_err mark b capacity room (Ok a) e x t n = absurd x
+reads_err mark b capacity room (Err y) e x t n = (t ∙ ap (λ z. refused (told z)) (sym x), λ l. n (ap (λ z. (told z).layer) (sym x) ∙ l))
+
+-- faults of the log and of a list are in layers of their own
+pub log_layer : (x : LogFault) → (log_told x).layer ≡ 2
+log_layer (log.Outside p) = refl
+log_layer (log.Sum p) = refl
+log_layer (log.Backward p) = refl
+log_layer (log.Overlap p) = refl
+log_layer (log.Full p) = refl
+log_layer (log.Room p) = refl
+
+fault_layer : (x : ListFault) (id : ℕ) → (list_fault x id).layer ≡ 3
+fault_layer (list.Outside p) id = refl
+fault_layer (list.Fragment p) id = refl
+fault_layer (list.Node p) id = refl
+fault_layer (list.Unlisted p) id = refl
+fault_layer (list.Overlap p) id = refl
+fault_layer (list.Twice p) id = refl
+fault_layer (list.Full p) id = refl
+
+pub list_layer : (e : InList) → (list_told e).layer ≡ 3
+list_layer e = fault_layer e.fault e.list
 
 -- the log that was read
 abbrev pub log_of : List Span → List (List Entry) → ℕ → Log

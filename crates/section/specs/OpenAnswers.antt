@@ -1,5 +1,5 @@
 -- What open answers.
-use Rattle.std.specs.Prelude.{◌≡◌, ℕ, cond, List, length, Some, None, Ok, Err, vec_items, Option, Result, nat_lt, slice_index}
+use Rattle.std.specs.Prelude.{◌≡◌, ℕ, cond, List, [], length, Some, None, Ok, Err, vec_items, Option, Result, nat_lt, slice_index}
 use Rattle.model.specs.Faults.{fault, Outcome, done, refused, unless, then}
 use Rattle.model.specs.Headers.{header_at}
 use Rattle.model.specs.Section.{Section}
@@ -42,10 +42,10 @@ Marks None mark (refused f) after = after ≡ None
 Marks None mark (done x) None = ⊥
 Marks None mark (done x) (Some a) = a.mark ≡ mark
 
--- the lists of an accepted file stand in the order of opening
+-- the lists of an accepted file stand in the order of opening; a file that its header refuses, in layer 1, has none
 abbrev pub ListsRows : Outcome Section → List Row → Type 0
 ListsRows (done s) rows = rows ≡ rows_of (length s.log.fragments) s.lists
-ListsRows (refused f) rows = Unit {0}
+ListsRows (refused f) rows = f.layer ≡ 1 → rows ≡ []
 
 -- a file was read: it is accepted, and the tables hold it
 pub record ReadsAs (mark : ℕ) (b : List ℕ) (capacity : ℕ) (room : Room) (a : Access) : Type 0 where
@@ -56,7 +56,7 @@ pub record ReadsAs (mark : ℕ) (b : List ℕ) (capacity : ℕ) (room : Room) (a
   pub marked : a.mark ≡ mark
   pub filed : Filed section.log section.lists (vec_items room.lists) (vec_items room.fragments)
 
--- header, log, lists and data references are read, or this is the first broken rule
+-- header, log, lists and data references are read, or this is the first broken rule; where it is the header's, no list is left
 abbrev pub ReadsFile : ℕ → List ℕ → ℕ → Room → Result Access OpenFault → Type 0
 ReadsFile mark b capacity room (Ok a) = ReadsAs mark b capacity room a
-ReadsFile mark b capacity room (Err e) = opened_in capacity b ≡ refused (told e)
+ReadsFile mark b capacity room (Err e) = (opened_in capacity b ≡ refused (told e)) × ((told e).layer ≡ 1 → vec_items room.lists ≡ [])

@@ -1,5 +1,5 @@
 //! Reading a file: its header, its log, its lists, and then their data references.
-ghost use Rattle.std.specs.Prelude.{◌≡◌, ◌+◌, ◌^◌, ◌<◌, ◌≤◌};
+ghost use Rattle.std.specs.Prelude.{◌≡◌, [], ◌+◌, ◌^◌, ◌<◌, ◌≤◌};
 ghost use Rattle.section.specs.Figures.{sizes, percent_of};
 ghost use Rattle.section.specs.OpenAnswers.{ReadsFile};
 
@@ -26,8 +26,9 @@ pub(crate) fn read_file<S: Store>(
     read_parts(store, mark, room)
 }
 
-// Reads its parts, one after the other.
+// Reads its parts, one after the other, into a room that holds no list.
 fn read_parts<S: Store>(store: &S, mark: u64, room: &mut Room) -> Result<Access, OpenFault>
+    requires { room.old.lists.items ≡ [] }
     ensures file { ReadsFile mark (S.Store.bytes store.now) room.old.counts.room room.new result }
     ensures room { room.new.counts.room ≡ room.old.counts.room }
 {

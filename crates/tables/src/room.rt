@@ -65,6 +65,7 @@ impl Room {
         ensures fragments { IfOk result (λ t. t.fragments.items ≡ []) }
         ensures lists { IfOk result (λ t. t.lists.items ≡ []) }
         ensures queue { IfOk result (λ t. t.queue.items ≡ []) }
+        ensures pieces { IfOk result (λ t. t.pieces.rows.items ≡ []) }
     {
         Ok(Room {
             counts: Counts::new(heap, changes)?,
@@ -85,6 +86,7 @@ impl Room {
         ensures fragments { self.new.fragments.items ≡ [] }
         ensures lists { self.new.lists.items ≡ [] }
         ensures queue { self.new.queue.items ≡ [] }
+        ensures pieces { self.new.pieces.rows.items ≡ [] }
     {
         self.counts.clear();
         self.ranges.clear();
