@@ -56,10 +56,10 @@ module _ (b : List ℕ) (h : Header) (capacity : ℕ) where
   unfolding opened_in
   opened_on r = unless_none (header_checks b) _ r.passes ∙ ap (λ (x : Header). within_room capacity (all_counts b x) (part_log b x)) (sym r.is)
 
-  roomy : {A : Type 0} (ps : List ℕ) (x : Outcome A) → length ps ≤ capacity → within_room capacity ps x ≡ x
+  pub roomy : {A : Type 0} (ps : List ℕ) (x : Outcome A) → length ps ≤ capacity → within_room capacity ps x ≡ x
   roomy ps x l = let e : ltb capacity (length ps) ≡ false = grind (arith, nat_tests) in rw e
 
-  crowded : {A : Type 0} (ps : List ℕ) (p : ℕ) (x : Outcome A) → capacity < length ps → p ≡ get_or ps capacity 0 → within_room capacity ps x ≡ refused (fault 100 2 p 0)
+  pub crowded : {A : Type 0} (ps : List ℕ) (p : ℕ) (x : Outcome A) → capacity < length ps → p ≡ get_or ps capacity 0 → within_room capacity ps x ≡ refused (fault 100 2 p 0)
   crowded ps p x l q = let e : ltb capacity (length ps) ≡ true = grind (arith, nat_tests) in rw (e, q)
 
   -- the log breaks a rule, or has more counts than there is room for

@@ -1,5 +1,6 @@
 -- What open answers.
-use Rattle.std.specs.Prelude.{◌≡◌, ℕ, cond, List, [], length, Some, None, Ok, Err, vec_items, Option, Result, nat_lt, slice_index}
+use Rattle.std.specs.Prelude.{◌≡◌, ℕ, ◌<◌, ◌≤◌, false, cond, List, [], length, Some, None, Ok, Err, vec_items, Option, Result, nat_lt, slice_index}
+use Rattle.std.specs.List.{AllByRecursion}
 use Rattle.model.specs.Faults.{fault, Outcome, done, refused, unless, then}
 use Rattle.model.specs.Headers.{header_at}
 use Rattle.model.specs.Section.{Section}
@@ -24,6 +25,19 @@ within_room room counts rest = cond (nat_lt room (length counts)) (refused (faul
 -- This is `opened` where the log gives no more counts than that.
 unfoldable pub opened_in : ℕ → List ℕ → Outcome Section
 opened_in room b = unless (header_checks b) (within_room room (all_counts b (header_at b)) (part_log b (header_at b)))
+
+-- with room for the log's counts, that is what the rules say of the bytes
+abbrev pub RoomSuffices : Type 0
+RoomSuffices = (room : ℕ) (b : List ℕ) → length (all_counts b (header_at b)) ≤ room → opened_in room b ≡ opened b
+
+-- with less, a file that its header does not refuse is refused for want of room, and for nothing else
+abbrev pub RoomWants : Type 0
+RoomWants = (room : ℕ) (b : List ℕ) → room < length (all_counts b (header_at b)) → AllByRecursion (λ c. c.0 ≡ false) (header_checks b)
+    → opened_in room b ≡ refused (fault 100 2 (slice_index (all_counts b (header_at b)) room) 0)
+
+-- whatever the room, what is accepted is what the rules accept
+abbrev pub RoomAccepts : Type 0
+RoomAccepts = (room : ℕ) (b : List ℕ) (s : Section) → opened_in room b ≡ done s → opened b ≡ done s
 
 -- an answer as an outcome
 abbrev pub outcome : Result Figures OpenFault → Outcome Figures

@@ -3,4 +3,5 @@
 
 pub mod access;
 pub mod files;
+pub mod laws;
 mod opening;

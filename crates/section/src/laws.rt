@@ -1,0 +1,23 @@
+//! What the room that a file is opened in changes: nothing where it suffices. Each law stands on the contract of a function that does nothing, so that its proof is asked for.
+ghost use Rattle.section.specs.OpenAnswers.{RoomSuffices, RoomWants, RoomAccepts};
+
+/// With room for the log's counts, opening answers what the rules say of the bytes.
+pub fn enough_room_changes_nothing() -> u8
+    ensures { RoomSuffices }
+{
+    0
+}
+
+/// With less room, a file that its header does not refuse is refused for want of room.
+pub fn too_little_room_is_told() -> u8
+    ensures { RoomWants }
+{
+    0
+}
+
+/// Whatever the room, what is accepted is what the rules accept.
+pub fn what_is_accepted_holds_in_any_room() -> u8
+    ensures { RoomAccepts }
+{
+    0
+}
