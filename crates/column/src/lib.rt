@@ -8,10 +8,9 @@ ghost use Rattle.column.specs.Column.{digits, in_column, DigitRule};
 const TOO_WIDE: u64 = 1_000_000_000_000;
 
 /// The digits of a number below 10 are that digit. From 10 up they are those of n / 10, and then n % 10.
-pub fn digit_rule() -> u8
+pub fn digit_rule()
     ensures { DigitRule }
 {
-    0
 }
 
 /// A number right-justified in a column of 12, with spaces before it; nothing where it has more digits.

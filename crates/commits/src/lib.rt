@@ -4,15 +4,13 @@
 ghost use Rattle.model.specs.Laws.{CommitReads, LooksGrow};
 
 // after a commit the file opens with the count one higher, and each list holds what it held and then the draft's nodes
-pub fn commit_reads_as_draft() -> u8
+pub fn commit_reads_as_draft()
     ensures { CommitReads }
 {
-    0
 }
 
 // over a commit each look to a count up to the old one answers as before
-pub fn looks_back_stand_over_commit() -> u8
+pub fn looks_back_stand_over_commit()
     ensures { LooksGrow }
 {
-    0
 }

@@ -24,7 +24,7 @@ pub struct Fault {
 }
 
 /// The header's fields that are used, by the format's own names beside each.
-#[derive(Clone, Copy, Debug)]
+#[derive(Clone, Copy, PartialEq, Eq, Debug)]
 pub struct Header {
     /// cTransactionsInLog
     pub count: u32,

@@ -2,22 +2,19 @@
 ghost use Rattle.section.specs.OpenAnswers.{RoomSuffices, RoomWants, RoomAccepts};
 
 /// With room for the log's counts, opening answers what the rules say of the bytes.
-pub fn enough_room_changes_nothing() -> u8
+pub fn enough_room_changes_nothing()
     ensures { RoomSuffices }
 {
-    0
 }
 
 /// With less room, a file that its header does not refuse is refused for want of room.
-pub fn too_little_room_is_told() -> u8
+pub fn too_little_room_is_told()
     ensures { RoomWants }
 {
-    0
 }
 
 /// Whatever the room, what is accepted is what the rules accept.
-pub fn what_is_accepted_holds_in_any_room() -> u8
+pub fn what_is_accepted_holds_in_any_room()
     ensures { RoomAccepts }
 {
-    0
 }
