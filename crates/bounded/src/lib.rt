@@ -1,11 +1,12 @@
 //! A list of at most so many values, with room for all of them reserved at once, so that nothing allocates later.
 #![tactic(auto)]
 
-ghost use Rattle.std.specs.Prelude.{◌≡◌, ◌+◌, ◌<◌, ◌≤◌, [], ◌∷◌, ◌++◌, IfOk, if◌then◌else◌, is_ok, vec_len, vec_capacity, insert, set, min, length, Decides};
+ghost use Rattle.std.specs.Prelude.{◌≡◌, ◌+◌, ◌≤◌, [], ◌∷◌, ◌++◌, IfOk, OnErr, if◌then◌else◌, is_ok, nat_lt, List, length, vec_len, vec_capacity, insert, set, min};
 
 use std::alloc::{AllocError, Global};
 use std::error::Error;
 use std::fmt;
+use std::marker::Model;
 
 /// There are as many values as there may be.
 #[derive(Clone, Copy, Debug, PartialEq, Eq)]
@@ -23,14 +24,21 @@ impl Error for Full {}
 #[derive(Drop)]
 pub struct Bounded<T, const MOST: usize> {
     values: Vec<T>,
-    ghost room: { MOST ≤ vec_capacity values },
-    ghost few: { vec_len values ≤ MOST },
+}
+
+// Clauses see the values in order.
+impl<T, const MOST: usize> Model for Bounded<T, MOST> {
+    ghost Value = { List T };
+
+    ghost view = { λ b. b.values.items };
+
+    ghost invariant = { λ b. (MOST ≤ vec_capacity b.values) × (vec_len b.values ≤ MOST) };
 }
 
 impl<T: Copy, const MOST: usize> Bounded<T, MOST> {
     /// No values, with room for all that there may be.
     pub fn new(heap: Global) -> Result<Bounded<T, MOST>, AllocError>
-        ensures { IfOk result (λ b. b.values.items ≡ []) }
+        ensures { IfOk result (λ b. b ≡ []) }
     {
         Ok(Bounded {
             values: Vec::with_capacity(heap, MOST)?,
@@ -39,16 +47,15 @@ impl<T: Copy, const MOST: usize> Bounded<T, MOST> {
 
     /// Lets all values go; the room stays.
     pub fn clear(&mut self)
-        ensures { self.new.values.items ≡ [] }
+        ensures { self.new ≡ [] }
     {
         self.values.clear();
     }
 
     /// One value more, behind the others.
     pub fn push(&mut self, value: T) -> Result<(), Full>
-        ensures room { Decides (is_ok result) (vec_len self.old.values < MOST) }
-        ensures items { self.new.values.items ≡ (if is_ok result then self.old.values.items ++ value ∷ [] else self.old.values.items) }
-        ensures len { vec_len self.new.values ≡ (if is_ok result then vec_len self.old.values + 1 else vec_len self.old.values) }
+        ensures room { is_ok result ≡ nat_lt (length self.old) MOST }
+        ensures items { self.new ≡ (if is_ok result then self.old ++ value ∷ [] else self.old) }
     {
         if self.values.len() >= MOST {
             return Err(Full);
@@ -56,11 +63,11 @@ impl<T: Copy, const MOST: usize> Bounded<T, MOST> {
         self.values.push_reserved(value);
         Ok(())
     }
+
     /// One value more, in front of the one at `at`, or behind all where there is none.
     pub fn insert(&mut self, at: usize, value: T) -> Result<(), Full>
-        ensures room { Decides (is_ok result) (vec_len self.old.values < MOST) }
-        ensures items { self.new.values.items ≡ (if is_ok result then insert self.old.values.items (min at (vec_len self.old.values)) value else self.old.values.items) }
-        ensures len { vec_len self.new.values ≡ (if is_ok result then vec_len self.old.values + 1 else vec_len self.old.values) }
+        ensures room { is_ok result ≡ nat_lt (length self.old) MOST }
+        ensures items { self.new ≡ (if is_ok result then insert self.old (min at (length self.old)) value else self.old) }
     {
         let len = self.values.len();
         if len >= MOST {
@@ -73,8 +80,7 @@ impl<T: Copy, const MOST: usize> Bounded<T, MOST> {
 
     /// Puts a value in place of the one at `at`, if there is one.
     pub fn set(&mut self, at: usize, value: T)
-        ensures items { self.new.values.items ≡ set self.old.values.items at value }
-        ensures len { vec_len self.new.values ≡ vec_len self.old.values }
+        ensures { self.new ≡ set self.old at value }
     {
         if at < self.values.len() {
             self.values[at] = value;
@@ -82,13 +88,14 @@ impl<T: Copy, const MOST: usize> Bounded<T, MOST> {
     }
 
     pub fn as_slice(&self) -> &[T]
-        ensures { result.now ≡ self.now.values.items }
+        ensures values { result.now ≡ self.now }
+        ensures few { length result.now ≤ MOST }
     {
         self.values.as_slice()
     }
 
     pub fn len(&self) -> usize
-        ensures { result ≡ vec_len self.now.values }
+        ensures { result ≡ length self.now }
     {
         self.values.len()
     }

@@ -1,2 +1,3 @@
 pub mod CardRows
 pub mod CardFacts
+pub mod Parts

@@ -4,7 +4,6 @@
 use lines::listed;
 use section::files::File;
 use std::fs;
-use store::base::Store;
 use store::flat_store::Flat;
 use tables::room::Room;
 
@@ -19,13 +18,9 @@ fn is_as_expected(rt: &HostRuntime, number: u32) -> anyhow::Result<bool> {
     let bytes = fs::read(rt, format!(in rt.alloc(); "{number:03}.one")?)?;
     let expected = fs::read_to_string(rt, format!(in rt.alloc(); "{number:03}.txt")?)?;
     let len = bytes.len() as u64;
-    let store = match Flat::new(bytes, len) {
-        Ok(store) => store,
-        Err(_) => return Ok(false),
-    };
-    let mut file = File::new(store, Room::new(rt.alloc(), MOST_ENTRIES)?);
+    let mut file = File::new(Flat::new(bytes, len)?, Room::new(rt.alloc(), MOST_ENTRIES)?);
     let text = listed(rt.alloc(), &mut file, 1)?;
-    Ok(text.as_str() == expected.as_str())
+    Ok(text == expected)
 }
 
 fn run(rt: &HostRuntime) -> anyhow::Result<()> {

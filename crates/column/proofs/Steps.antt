@@ -1,52 +1,50 @@
--- One digit more in a row of bytes, and a row of spaces with all digits set.
-use Rattle.std.proofs.Common.{◌≡◌, ℕ, zero, suc, ◌+◌, ◌-◌, ◌/◌, ◌%◌, ◌^◌, ◌<◌, ◌≤◌, List, [], ◌∷◌, ◌++◌, length, get_or, take, drop, set, replicate, sym, ap, ◌∙◌, append_assoc, append-nil, arith, length-append, length-take-le}
+-- One digit more, from the right, in a column that holds spaces in front.
+use Rattle.std.proofs.Common.{◌≡◌, ℕ, zero, suc, ◌+◌, ◌-◌, ◌/◌, ◌%◌, ◌^◌, ◌<◌, ◌≤◌, List, [], ◌∷◌, ◌++◌, length, take, drop, set, replicate, sym, ap, ◌∙◌, append_assoc, append-nil, arith, length-append}
 use native.Mathlib.Nat.{pow-succ'}
-use Rattle.std.proofs.lemmas.List.{take-replicate, drop_more, set_split, set_at}
+use Rattle.std.proofs.lemmas.List.{take-replicate, take-take, set_split, take_at, drop_at, length-replicate}
 use Rattle.column.specs.Column.{digits, in_column}
 use Rattle.column.proofs.Digits.{digits_one, digits_more}
 
--- a number of two digits and more has one digit less after a division
-pub down : (n e : ℕ) → 10 ≤ n → n < 10 ^ e → (n / 10 < 10 ^ (e - 1)) × (1 < e)
-down n zero h b = absurd (omega arith)
-down n (suc zero) h b = absurd (omega arith)
-down n (suc (suc k)) h b =
-    let p = pow-succ' 10 (suc k) in
-    let e : suc (suc k) - 1 ≡ suc k = omega arith in
-    let q : n / 10 < 10 ^ suc k = omega arith in
-    (rw e q, omega arith)
-
--- a number of one digit in front of e
-pub alone : (xs : List ℕ) (n e : ℕ) → n < 10 → 0 < e → e ≤ length xs → set xs (e - 1) (48 + n) ≡ take (e - 1) xs ++ (digits n ++ drop e xs)
-alone xs n e h p w =
-    let q : suc (e - 1) ≡ e = omega arith in
-    set_split xs (e - 1) (48 + n) (omega arith) ∙ ap (λ k. take (e - 1) xs ++ (48 + n) ∷ drop k xs) q
-    ∙ ap (λ ds. take (e - 1) xs ++ (ds ++ drop e xs)) (sym (digits_one n h))
-
-pub alone_size : (n e : ℕ) → n < 10 → 0 < e → e - 1 + length (digits n) ≡ e
-alone_size n e h p = omega (arith, ap length (digits_one n h))
-
--- the last digit, behind those of n / 10
-module _ (xs : List ℕ) (n e r : ℕ) (h : 10 ≤ n) (p : 0 < e) (w : e ≤ length xs) (z : r + length (digits (n / 10)) ≡ e - 1) where
-  pub behind : (ys : List ℕ) → ys ≡ take r xs ++ (digits (n / 10) ++ drop (e - 1) xs) → set ys (e - 1) (48 + n % 10) ≡ take r xs ++ (digits n ++ drop e xs)
-  behind ys is =
-      let ds = digits (n / 10) in
-      let q : e - 1 + 1 ≡ e = omega arith in
-      let size : length (take r xs ++ ds) ≡ e - 1 = omega (arith, length-append (take r xs) ds, length-take-le r xs (omega arith)) in
-      let split : ys ≡ (take r xs ++ ds) ++ (get_or xs (e - 1) 0 ∷ drop (e - 1 + 1) xs) =
-      is ∙ ap (λ t. take r xs ++ (ds ++ t)) (drop_more xs (e - 1) 0 (omega arith)) ∙ sym (append_assoc (take r xs) ds _) in
-      ap (λ t. set t (e - 1) (48 + n % 10)) split ∙ set_at (take r xs ++ ds) _ _ (48 + n % 10) (e - 1) size
-      ∙ ap (λ k. (take r xs ++ ds) ++ (48 + n % 10) ∷ drop k xs) q
-      ∙ append_assoc (take r xs) ds _
-      ∙ ap (λ t. take r xs ++ t) (sym (append_assoc ds ((48 + n % 10) ∷ []) (drop e xs)))
-      ∙ ap (λ t. take r xs ++ (t ++ drop e xs)) (sym (digits_more n h))
-
-  pub behind_size : r + length (digits n) ≡ e
-  behind_size = omega (arith, ap length (digits_more n h), length-append (digits (n / 10)) ((48 + n % 10) ∷ []))
+-- what the column is to hold, where the digits of n go in front of `end`
+abbrev pub filled : List ℕ → ℕ → ℕ → List ℕ
+filled xs n end = replicate (end - length (digits n)) 32 ++ (digits n ++ drop end xs)
 
 -- in a column of spaces
-pub filled : (n r : ℕ) (col : List ℕ) → r + length (digits n) ≡ 12 → col ≡ take r (replicate 12 32) ++ (digits n ++ drop 12 (replicate 12 32)) → col ≡ in_column n
+pub filled_all : (n : ℕ) → filled (replicate 12 32) n 12 ≡ in_column n
 unfolding in_column
-filled n r col z is =
-    let q : r ≡ 12 - length (digits n) = omega arith in
-    is ∙ ap (λ t. t ++ (digits n ++ [])) (take-replicate r 12 32 (omega arith)) ∙ ap (λ t. replicate r 32 ++ t) (append-nil (digits n))
-    ∙ ap (λ k. replicate k 32 ++ digits n) q
+filled_all n = ap (λ t. replicate (12 - length (digits n)) 32 ++ t) (append-nil (digits n))
+
+-- a number without its last digit takes one place less
+pub fewer : (n end : ℕ) → 0 < end → n < 10 ^ end → n / 10 < 10 ^ (end - 1)
+fewer n zero p h = absurd (omega arith)
+fewer n (suc k) p h =
+    let e : suc k - 1 ≡ k = omega arith in
+    rw e (omega (arith, pow-succ' 10 k))
+
+-- spaces stand in front of `end`
+module _ (xs : List ℕ) (end : ℕ) (some : 0 < end) (within : end ≤ length xs) (blank : take end xs ≡ replicate end 32) where
+  last_set : (v : ℕ) → set xs (end - 1) v ≡ replicate (end - 1) 32 ++ (v ∷ drop end xs)
+  last_set v =
+      let e : suc (end - 1) ≡ end = omega arith in
+      let front : take (end - 1) xs ≡ replicate (end - 1) 32
+      = sym (take-take (end - 1) end xs (omega arith)) ∙ ap (take (end - 1)) blank ∙ take-replicate (end - 1) end 32 (omega arith) in
+      set_split xs (end - 1) v (omega arith) ∙ ap (λ k. take (end - 1) xs ++ v ∷ drop k xs) e ∙ ap (λ t. t ++ v ∷ drop end xs) front
+
+  -- the digit is the first
+  pub first_digit : (n : ℕ) → n < 10 → set xs (end - 1) (48 + n % 10) ≡ filled xs n end
+  first_digit n h =
+      let e : n % 10 ≡ n = omega arith in
+      last_set (48 + n % 10) ∙ rw (digits_one n h, e)
+
+  -- the others stand before it
+  pub digit_more : (n : ℕ) → 10 ≤ n → filled (set xs (end - 1) (48 + n % 10)) (n / 10) (end - 1) ≡ filled xs n end
+  digit_more n h =
+      let v = 48 + n % 10 in
+      let ds = digits (n / 10) in
+      let behind : drop (end - 1) (set xs (end - 1) v) ≡ v ∷ drop end xs
+      = ap (drop (end - 1)) (last_set v) ∙ drop_at (replicate (end - 1) 32) _ (end - 1) (length-replicate (end - 1) 32) in
+      let places : end - 1 - length ds ≡ end - length (digits n) = omega (arith, ap length (digits_more n h), length-append ds (v ∷ [])) in
+      rw (behind, places, digits_more n h, append_assoc)
+
+  pub blank_less : (v : ℕ) → take (end - 1) (set xs (end - 1) v) ≡ replicate (end - 1) 32
+  blank_less v = ap (take (end - 1)) (last_set v) ∙ take_at (replicate (end - 1) 32) _ (end - 1) (length-replicate (end - 1) 32)

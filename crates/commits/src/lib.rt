@@ -4,13 +4,13 @@
 ghost use Rattle.model.specs.Laws.{CommitReads, LooksGrow};
 
 // after a commit the file opens with the count one higher, and each list holds what it held and then the draft's nodes
+#[tactic(auto, using(crate::proofs::CommitReads::commit_reads))]
 pub fn commit_reads_as_draft()
     ensures { CommitReads }
-{
-}
+{}
 
 // over a commit each look to a count up to the old one answers as before
+#[tactic(auto, using(crate::proofs::LooksGrow::looks_grow))]
 pub fn looks_back_stand_over_commit()
     ensures { LooksGrow }
-{
-}
+{}

@@ -1,3 +1,3 @@
-pub mod Newest
 pub mod Listed
+pub mod Newest
 pub mod Numbered

@@ -1,10 +1,11 @@
 //! The changes in the order of the log, and the lists in the order of their IDs.
-ghost use Rattle.std.specs.Prelude.{◌≡◌, ℕ, ◌+◌, ◌^◌, ◌<◌, ◌≤◌, min, false, [], ◌∷◌, ◌++◌, IfOk, if◌then◌else◌, vec_len, vec_capacity, nat_lt, slice_index};
+ghost use Rattle.std.specs.Prelude.{◌≡◌, ℕ, ◌+◌, ◌^◌, ◌<◌, ◌≤◌, min, false, [], ◌∷◌, ◌++◌, All, AllPairs, IfOk, None, if◌then◌else◌, is_ok, vec_len, vec_capacity, nat_lt, slice_index_or};
 ghost use Rattle.counts.specs.Noted.{change, noted_most};
-ghost use Rattle.counts.specs.Chains.{list_at, transaction_at, id_at, newest_in, listed};
+ghost use Rattle.counts.specs.Chains.{list_at, newest_in, listed};
 
-use crate::chains::{newest_at, place_of, set_newest};
-use crate::changes::{Change, Counted};
+use crate::changes::Change;
+use crate::lists::Lists;
+use bounded::Full;
 use std::alloc::{AllocError, Global};
 
 mod reads;
@@ -12,25 +13,25 @@ mod reads;
 // Counting stops here. No log has so many transactions, since each takes bytes of a file.
 const LAST: u64 = 1 << 63;
 
-/// The changes in the order of the log. `links` has for each of them one more than the index of its list's change before it, and 0 for none;
-/// `lists` has each list once, with one more than the index of its newest change.
+/// The changes in the order of the log, each list with its newest one, and for each change the index of its list's change before it.
+/// The room is known only when it is made, so no `Bounded` holds them.
 #[derive(Drop)]
 pub struct Counts {
     changes: Vec<Change>,
-    links: Vec<usize>,
-    lists: Vec<Counted>,
+    // not in the rows of the changes: the promises speak of the changes alone, in the order of the log
+    links: Vec<Option<usize>>,
+    lists: Lists,
     room: usize,
     finished: u64,
     highest: u32,
     ghost held: { (vec_len changes ≤ room) × (room ≤ vec_capacity changes) },
     ghost paired: { (vec_len links ≡ vec_len changes) × (room ≤ vec_capacity links) },
-    ghost few: { (vec_len lists ≤ vec_len changes) × (room ≤ vec_capacity lists) },
+    ghost few: { (vec_len lists.rows ≤ vec_len changes) × (room ≤ vec_capacity lists.rows) },
     ghost countable: { finished ≤ 2 ^ 63 },
-    ghost rises: { (i j : ℕ) → (i < j) × (j < vec_len lists) → id_at lists.items i < id_at lists.items j },
-    ghost newest: { (id : ℕ) → listed id lists.items ≡ newest_in id changes.items (vec_len changes) },
-    ghost linked: { (i : ℕ) → i < vec_len changes → slice_index links.items i ≡ newest_in (list_at changes.items i) changes.items i },
-    ghost early: { (i : ℕ) → i < vec_len changes → transaction_at changes.items i ≤ finished + 1 },
-    ghost steady: { (i j : ℕ) → (i < j) × (j < vec_len changes) → transaction_at changes.items i ≤ transaction_at changes.items j },
+    ghost newest: { (id : ℕ) → listed id lists.rows.items ≡ newest_in id changes.items (vec_len changes) },
+    ghost linked: { (i : ℕ) → i < vec_len changes → slice_index_or links.items i None ≡ newest_in (list_at changes.items i) changes.items i },
+    ghost early: { All (λ c. c.transaction ≤ finished + 1) changes.items },
+    ghost steady: { AllPairs (λ c d. c.transaction ≤ d.transaction) changes.items },
     ghost most: { highest ≡ noted_most changes.items },
 }
 
@@ -45,7 +46,7 @@ impl Counts {
         Ok(Counts {
             changes: Vec::with_capacity(heap, room)?,
             links: Vec::with_capacity(heap, room)?,
-            lists: Vec::with_capacity(heap, room)?,
+            lists: Lists::new(heap, room)?,
             room,
             finished: 0,
             highest: 0,
@@ -77,34 +78,19 @@ impl Counts {
         }
     }
 
-    /// Notes the count that the next transaction gives a list; says whether there was room.
-    pub fn note(&mut self, list: u32, count: u32) -> bool
-        ensures test { result ≡ nat_lt (vec_len self.old.changes) self.old.room }
-        ensures changes { self.new.changes.items ≡ (if result then self.old.changes.items ++ change (self.old.finished + 1) list count ∷ [] else self.old.changes.items) }
-        ensures len { vec_len self.new.changes ≡ (if result then vec_len self.old.changes + 1 else vec_len self.old.changes) }
+    /// Notes the count that the next transaction gives a list, if there is room.
+    pub fn note(&mut self, list: u32, count: u32) -> Result<(), Full>
+        ensures test { is_ok result ≡ nat_lt (vec_len self.old.changes) self.old.room }
+        ensures changes { self.new.changes.items ≡ (if is_ok result then self.old.changes.items ++ change (self.old.finished + 1) list count ∷ [] else self.old.changes.items) }
+        ensures len { vec_len self.new.changes ≡ (if is_ok result then vec_len self.old.changes + 1 else vec_len self.old.changes) }
         ensures room { self.new.room ≡ self.old.room }
         ensures finished { self.new.finished ≡ self.old.finished }
-        ensures same { result ≡ false → self.new ≡ self.old }
+        ensures same { is_ok result ≡ false → self.new ≡ self.old }
     {
         if self.changes.len() >= self.room {
-            return false;
+            return Err(Full);
         }
-        self.add(list, count);
-        true
-    }
-
-    // One change more, and it is its list's newest.
-    fn add(&mut self, list: u32, count: u32)
-        requires { vec_len self.old.changes < self.old.room }
-        ensures changes { self.new.changes.items ≡ self.old.changes.items ++ change (self.old.finished + 1) list count ∷ [] }
-        ensures len { vec_len self.new.changes ≡ vec_len self.old.changes + 1 }
-        ensures room { self.new.room ≡ self.old.room }
-        ensures finished { self.new.finished ≡ self.old.finished }
-    {
-        let i = place_of(&self.lists, list);
-        let before = newest_at(&self.lists, i, list);
-        let newest = self.changes.len() + 1;
-        set_newest(&mut self.lists, i, Counted { list, newest });
+        let before = self.lists.set_newest(list, self.changes.len());
         self.links.push_reserved(before);
         self.changes.push_reserved(Change {
             transaction: self.finished + 1,
@@ -112,5 +98,6 @@ impl Counts {
             count,
         });
         self.highest = self.highest.max(list);
+        Ok(())
     }
 }

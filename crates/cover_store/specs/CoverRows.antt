@@ -1,6 +1,6 @@
 -- Laws of a row without its first k bytes: what a store's calls do, seen through the cut.
-use Rattle.std.specs.Prelude.{◌≡◌, ℕ, ◌+◌, ◌-◌, ◌<◌, ◌≤◌, List, [], ◌∷◌, ◌++◌, length, drop, Ok, Err, Result, refl}
-use Rattle.std.proofs.Common.{ap, ◌∙◌, arith, rules}
+use Rattle.std.specs.Prelude.{◌≡◌, ℕ, ◌+◌, ◌*◌, ◌<◌, ◌≤◌, List, [], ◌∷◌, ◌++◌, length, drop, Ok, Err, Result, refl}
+use Rattle.std.proofs.Common.{sym, ap, ◌∙◌, arith, rules}
 use Rattle.std.proofs.lemmas.List.{same_lists, places, length-drop}
 use Rattle.std.proofs.lemmas.Bool.Decides.{nat_tests}
 use Rattle.model.specs.Bytes.{Write, put, piece, written}
@@ -20,15 +20,15 @@ pub written_drop : (row : List ℕ) (k p : ℕ) (new : List ℕ) → k + p ≤ l
 unfolding written
 written_drop row k p new h = same_lists _ _ (search (rules, places)) (λ i d g. grind (arith, places))
 
-pub read_cut : {T : Type 0} (row : List ℕ) (k p n : ℕ) (was is : List ℕ) (r : Result T StoreFault) → p ≤ length row - k → 0 < n
+pub read_cut : {T : Type 0} (row : List ℕ) (k p n : ℕ) (was is : List ℕ) (r : Result T StoreFault) → p ≤ length (drop k row) → 0 < n
     → Reads row (k + p) n was is r → Reads (drop k row) p n was is r
-read_cut row k p n was is (Ok x) b z (a, f, e) = (simp length-drop (omega arith), f, e ∙ ap (λ xs. xs ++ drop n was) (piece_drop row k p n))
-read_cut row k p n was is (Err x) b z (a, same, e) = ((λ u v. let l = length-drop k row in a (omega arith) v), same, e)
+read_cut row k p n was is (Ok x) b z (a, f, e) = let l = length-drop k row in (omega arith, f, e ∙ ap (λ xs. xs ++ drop n was) (piece_drop row k p n))
+read_cut row k p n was is (Err x) b z (a, same, e) = let l = length-drop k row in ((λ u v. a (omega arith) v), same, e)
 
-pub wrote_cut : {T : Type 0} (row : List ℕ) (most k p : ℕ) (new after : List ℕ) (r : Result T StoreFault) → p ≤ length row - k → 0 < length new
+pub wrote_cut : {T : Type 0} (row : List ℕ) (most k p : ℕ) (new after : List ℕ) (r : Result T StoreFault) → p ≤ length (drop k row) → 0 < length new
     → Writes row most (k + p) new after r → Writes (drop k row) (cut_most row most k) p new (drop k after) r
-wrote_cut row most k p new after (Ok x) b z (a, f, e) = (simp length-drop (omega arith), grind (arith, nat_tests), ap (drop k) e ∙ written_drop row k p new a)
-wrote_cut row most k p new after (Err x) b z (a, same, e) = ((λ u v. let l = length-drop k row in a (grind (arith, nat_tests)) (grind (arith, nat_tests))), ap (drop k) same, e)
+wrote_cut row most k p new after (Ok x) b z (a, f, e) = let l = length-drop k row in (b, grind (arith, nat_tests), ap (drop k) e ∙ written_drop row k p new a)
+wrote_cut row most k p new after (Err x) b z (a, same, e) = let l = length-drop k row in ((λ u v. a (grind (arith, nat_tests)) (grind (arith, nat_tests))), ap (drop k) same, e)
 
 pub most_cut : {T : Type 0} (row : List ℕ) (most later k p : ℕ) (new after : List ℕ) (r : Result T StoreFault) → later ≡ most
     → Writes row most (k + p) new after r → cut_most after later k ≡ cut_most row most k
@@ -40,6 +40,10 @@ most_cut row most later k p new after (Err x) q (a, same, e) = ap (λ xs. cut_mo
 pub shifted_append : (k : ℕ) (v w : List Write) → shifted k (v ++ w) ≡ shifted k v ++ shifted k w
 shifted_append k [] w = refl
 shifted_append k (x ∷ v) w = let e = shifted_append k v w in grind (arith, nat_tests)
+
+-- two covers of one size, one after the other
+pub shifted_joined : (n m : ℕ) (v w : List Write) → m ≡ n → shifted (512 * n) v ++ shifted (512 * m) w ≡ shifted (512 * n) (v ++ w)
+shifted_joined n m v w e = ap (λ i. shifted (512 * n) v ++ shifted (512 * i) w) e ∙ sym (shifted_append (512 * n) v w)
 
 pub shifted_none : (k p : ℕ) (new : List ℕ) → length new ≡ 0 → shifted k (put p new ∷ []) ≡ []
 shifted_none k p new z = grind (arith, nat_tests)

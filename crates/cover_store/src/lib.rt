@@ -1,15 +1,15 @@
 //! Any store without its first blocks.
 #![tactic(auto)]
 
-ghost use Rattle.std.specs.Prelude.{◌≡◌, ◌+◌, ◌*◌, ◌≤◌, ◌++◌, length, drop, MatchResult};
+ghost use Rattle.std.specs.Prelude.{◌≡◌, ◌*◌, ◌≤◌, length, drop, MatchResult};
 ghost use Rattle.std.proofs.Math.Path.{refl};
-ghost use Rattle.std.proofs.Common.{sym, ap, subst, ◌∙◌, rules, arith};
+ghost use Rattle.std.proofs.Common.{subst, ◌∙◌, rules};
 ghost use Rattle.model.specs.Bytes.{put, applied};
 ghost use Rattle.model.specs.Faults.{fault};
 ghost use Rattle.store.specs.Refusals.{told};
 ghost use Rattle.store.specs.Rows.{Reads, Writes, if_done};
 ghost use Rattle.cover_store.specs.Covers.{cut_most, shifted};
-ghost use Rattle.cover_store.specs.CoverRows.{cut_within, shifted_append};
+ghost use Rattle.cover_store.specs.CoverRows.{cut_within, shifted_joined};
 ghost use Rattle.store.specs.RowsLemmas.{byte_drop, applied_more};
 
 use store::base::{NotMade, SavingStore, Store, StoreFault, has_room};
@@ -44,6 +44,7 @@ fn len_cut<S: Store>(inner: &S, skip: u64) -> u64
 }
 
 // Reads from what is left behind the first `skip` bytes. A read of nothing is done here, since the store may end before them.
+#[tactic(auto, using(crate::specs::CoverRows::read_cut, store::specs::RowsLemmas::read_none))]
 fn read_cut<S: Store>(
     inner: &S,
     skip: u64,
@@ -61,6 +62,7 @@ fn read_cut<S: Store>(
 }
 
 // Writes into what is left behind the first `skip` bytes.
+#[tactic(auto, using(crate::specs::CoverRows::wrote_cut, crate::specs::CoverRows::cut_within, crate::specs::CoverRows::most_cut, store::specs::RowsLemmas::written_none, store::specs::RowsLemmas::row_made), unfolding(model::specs::Bytes::applied))]
 fn write_cut<S: SavingStore>(
     inner: &mut S,
     skip: u64,
@@ -86,7 +88,7 @@ impl<S: Store> Store for Cover<S> {
 
     ghost within = { λ s. cut_within _ _ _ (S.Store.within s.inner) };
 
-    ghost fits = { first_of (Prim.search rules, Prim.grind (arith, Self.row.coded.inj)) };
+    ghost fits = { Prim.search rules };
 
     ghost byte = { λ s k. byte_drop _ _ k (S.Store.byte s.inner) };
 
@@ -115,18 +117,11 @@ impl<S: SavingStore> SavingStore for Cover<S> {
 
     ghost none = { unfold applied in λ s. (S.SavingStore.none s.inner, refl, refl, refl) };
 
-    ghost more = { λ s t u a b p q.
-        let e : shifted (512 * s.blocks) (a ++ b) ≡ shifted (512 * s.blocks) a ++ shifted (512 * t.blocks) b
-        = shifted_append (512 * s.blocks) a b ∙ ap (λ n. shifted (512 * s.blocks) a ++ shifted (512 * n) b) (sym p.1) in (
-          subst (λ ws. S.SavingStore.wrote s.inner ws u.inner) (sym e) (S.SavingStore.more s.inner t.inner u.inner _ _ p.0 q.0),
-          q.1 ∙ p.1,
-          applied_more _ _ _ a b p.2 q.2,
-          q.3 ∙ p.3,
-        ) };
+    ghost more = { λ s t u a b p q. (subst (λ ws. S.SavingStore.wrote s.inner ws u.inner) (shifted_joined _ _ a b p.1) (S.SavingStore.more _ _ _ _ _ p.0 q.0), q.1 ∙ p.1, applied_more _ _ _ a b p.2 q.2, q.3 ∙ p.3) };
 
-    ghost stands = { first_of (Prim.search rules, Prim.grind (arith, Self.row.coded.inj)) };
+    ghost stands = { λ s t a made. made.2 };
 
-    ghost lasts = { first_of (Prim.search rules, Prim.grind (arith, Self.row.coded.inj)) };
+    ghost lasts = { λ s t a made. made.3 };
 
     fn write(&mut self, place: u64, new: &[u8]) -> Result<(), StoreFault> {
         if !has_room(self, place, new.len()) {

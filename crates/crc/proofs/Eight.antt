@@ -1,9 +1,10 @@
--- Eight bytes a turn, each by a table of its own.
-use Rattle.std.proofs.Common.{◌≡◌, ℕ, ◌+◌, ◌/◌, ◌%◌, ◌^◌, ◌<◌, ◌≤◌, List, [], ◌∷◌, length, get_or, drop, sym, ap, ◌∙◌, arith}
+-- Eight bytes in a row, each by a table of its own.
+use Rattle.std.proofs.Common.{◌≡◌, ℕ, ◌/◌, ◌%◌, ◌^◌, ◌<◌, List, [], ◌∷◌, length, get_or, sym, refl, ap, ◌∙◌, arith}
 use lib.Bits.{bit_xor, xor_assoc, xor_comm, xor_zero_r}
+use Rattle.std.proofs.lemmas.List.FromFn.{fill_by_all}
 use Rattle.model.specs.Crc.{Scheme, steps, run}
 use Rattle.crc.proofs.Reflected.{reflected, run_low}
-use Rattle.crc.proofs.Rows.{run_end, run_turn}
+use Rattle.crc.proofs.Rows.{run_end}
 
 -- the last four first
 last_first : (x₀ x₁ x₂ x₃ x₄ x₅ x₆ x₇ : ℕ)
@@ -30,17 +31,13 @@ module _ (p f l : ℕ) where
       let q₄ : r / 2 ^ 24 / 256 ≡ 0 = omega arith in
       rw (low, low, q₂, low, q₃, low, q₄, low, low, low, low, run_end s, xor_zero_r)
 
-  -- a turn, where each x is the entry for its byte: what is left gives what it gave before
-  pub eight_turn : (r : ℕ) (bs : List ℕ) (i : ℕ) → r < 2 ^ 32 → ((k : ℕ) → get_or bs k 0 < 256) → i + 8 ≤ length bs → {x₀ x₁ x₂ x₃ x₄ x₅ x₆ x₇ : ℕ}
-      → x₀ ≡ steps s 64 (bit_xor (r % 256) (get_or bs i 0)) → x₁ ≡ steps s 56 (bit_xor (r / 2 ^ 8 % 256) (get_or bs (i + 1) 0))
-      → x₂ ≡ steps s 48 (bit_xor (r / 2 ^ 16 % 256) (get_or bs (i + 2) 0)) → x₃ ≡ steps s 40 (bit_xor (r / 2 ^ 24 % 256) (get_or bs (i + 3) 0))
-      → x₄ ≡ steps s 32 (get_or bs (i + 4) 0) → x₅ ≡ steps s 24 (get_or bs (i + 5) 0)
-      → x₆ ≡ steps s 16 (get_or bs (i + 6) 0) → x₇ ≡ steps s 8 (get_or bs (i + 7) 0)
-      → run s (bit_xor (bit_xor (bit_xor (bit_xor (bit_xor (bit_xor (bit_xor x₄ x₅) x₆) x₇) x₀) x₁) x₂) x₃) (drop (i + 8) bs) ≡ run s r (drop i bs)
-  eight_turn r bs i h small z {x₀} {x₁} {x₂} {x₃} {x₄} {x₅} {x₆} {x₇} e₀ e₁ e₂ e₃ e₄ e₅ e₆ e₇ =
-      let turn : run s (bit_xor x₀ (bit_xor x₁ (bit_xor x₂ (bit_xor x₃ (bit_xor x₄ (bit_xor x₅ (bit_xor x₆ x₇))))))) (drop (i + 8) bs) ≡ run s r (drop i bs)
-      = simp (e₀, e₁, e₂, e₃, e₄, e₅, e₆, e₇)
-      (ap (λ x. run s x (drop (i + 8) bs))
-      (sym (run_eight r _ _ _ _ _ _ _ _ h (small i) (small (i + 1)) (small (i + 2)) (small (i + 3)) (small (i + 4)) (small (i + 5)) (small (i + 6)) (small (i + 7))))
-      ∙ sym (run_turn s r bs i z)) in
-      ap (λ x. run s x (drop (i + 8) bs)) (last_first x₀ x₁ x₂ x₃ x₄ x₅ x₆ x₇) ∙ turn
+  -- a turn, where each x is the entry for its byte
+  pub eight_turn : (r : ℕ) (bs : List ℕ) → r < 2 ^ 32 → ((k : ℕ) → get_or bs k 0 < 256) → length bs ≡ 8 → {x₀ x₁ x₂ x₃ x₄ x₅ x₆ x₇ : ℕ}
+      → x₀ ≡ steps s 64 (bit_xor (r % 256) (get_or bs 0 0)) → x₁ ≡ steps s 56 (bit_xor (r / 2 ^ 8 % 256) (get_or bs 1 0))
+      → x₂ ≡ steps s 48 (bit_xor (r / 2 ^ 16 % 256) (get_or bs 2 0)) → x₃ ≡ steps s 40 (bit_xor (r / 2 ^ 24 % 256) (get_or bs 3 0))
+      → x₄ ≡ steps s 32 (get_or bs 4 0) → x₅ ≡ steps s 24 (get_or bs 5 0) → x₆ ≡ steps s 16 (get_or bs 6 0) → x₇ ≡ steps s 8 (get_or bs 7 0)
+      → bit_xor (bit_xor (bit_xor (bit_xor (bit_xor (bit_xor (bit_xor x₄ x₅) x₆) x₇) x₀) x₁) x₂) x₃ ≡ run s r bs
+  eight_turn r bs small z n {x₀} {x₁} {x₂} {x₃} {x₄} {x₅} {x₆} {x₇} e₀ e₁ e₂ e₃ e₄ e₅ e₆ e₇ =
+      last_first x₀ x₁ x₂ x₃ x₄ x₅ x₆ x₇
+      ∙ simp (e₀, e₁, e₂, e₃, e₄, e₅, e₆, e₇) (sym (run_eight r _ _ _ _ _ _ _ _ small (z 0) (z 1) (z 2) (z 3) (z 4) (z 5) (z 6) (z 7)))
+      ∙ ap (run s r) (sym (fill_by_all (λ k. get_or bs k 0) bs 8 0 n (λ k h. refl)))

@@ -3,13 +3,16 @@
 
 mod tables;
 
-ghost use Rattle.std.specs.Prelude.{◌≡◌, ◌+◌, ◌*◌, ◌%◌, ◌<◌, ◌≤◌, length, drop, bit_xor};
+ghost use Rattle.std.specs.Prelude.{◌≡◌, ◌+◌, ◌*◌, ◌%◌, ◌<◌, bit_xor};
 ghost use Rattle.model.specs.Crc.{steps, fed, run, crc_of, crc_32};
 
 use tables::TABLES;
 
+// What the register holds at first, and what is added to it at the end.
+const ALL_ONES: u32 = 0xffff_ffff;
+
 /// A CRC-32 in the making.
-#[derive(Clone, Copy)]
+#[derive(Debug, Clone, Copy, PartialEq, Eq)]
 pub struct Crc {
     register: u32,
 }
@@ -19,9 +22,7 @@ impl Crc {
     pub fn new() -> Crc
         ensures { result.register ≡ crc_32.first }
     {
-        Crc {
-            register: 0xffff_ffff,
-        }
+        Crc { register: ALL_ONES }
     }
 
     /// One byte more.
@@ -35,20 +36,26 @@ impl Crc {
     pub fn update_slice(&mut self, bytes: &[u8])
         ensures { self.new.register ≡ run crc_32 self.old.register bytes.now }
     {
-        let mut register = self.register;
-        let mut at = 0;
-        while bytes.len() - at >= 8 {
-            register = after_eight(register, bytes, at);
-            at += 8;
-        }
-        self.register = after_rest(register, bytes, at);
+        let (eights, rest) = bytes.as_chunks();
+        let register = eights.iter().fold(self.register, after_eight);
+        self.register = rest
+            .iter()
+            .fold(register, |register, byte| after_byte(register, *byte));
     }
 
     /// The check of all bytes so far.
     pub fn finish(self) -> u32
         ensures { result ≡ bit_xor self.register crc_32.last }
     {
-        self.register ^ 0xffff_ffff
+        self.register ^ ALL_ONES
+    }
+}
+
+impl Default for Crc {
+    ghost is_default = { λ crc. crc.register ≡ crc_32.first };
+
+    fn default() -> Crc {
+        Self::new()
     }
 }
 
@@ -78,28 +85,16 @@ fn after_byte(register: u32, byte: u8) -> u32
 
 // The register has moved out after four of the eight bytes, so that the last four meet nothing.
 // They come first here, since they need not wait for the register.
-fn after_eight(register: u32, bytes: &[u8], at: usize) -> u32
-    requires { at + 8 ≤ length bytes.now }
-    ensures { run crc_32 result (drop (at + 8) bytes.now) ≡ run crc_32 register (drop at bytes.now) }
+fn after_eight(register: u32, bytes: &[u8; 8]) -> u32
+    ensures { result ≡ run crc_32 register bytes.now }
 {
-    spread(0, bytes[at + 4], 3)
-        ^ spread(0, bytes[at + 5], 2)
-        ^ spread(0, bytes[at + 6], 1)
-        ^ spread(0, bytes[at + 7], 0)
-        ^ spread(register, bytes[at], 7)
-        ^ spread(register >> 8, bytes[at + 1], 6)
-        ^ spread(register >> 16, bytes[at + 2], 5)
-        ^ spread(register >> 24, bytes[at + 3], 4)
-}
-
-// The bytes that are left of a slice, one by one.
-fn after_rest(register: u32, bytes: &[u8], start: usize) -> u32
-    requires { start ≤ length bytes.now }
-    ensures { result ≡ run crc_32 register (drop start bytes.now) }
-{
-    let mut register = register;
-    for at in start..bytes.len() {
-        register = after_byte(register, bytes[at]);
-    }
-    register
+    let [a, b, c, d, e, f, g, h] = *bytes;
+    spread(0, e, 3)
+        ^ spread(0, f, 2)
+        ^ spread(0, g, 1)
+        ^ spread(0, h, 0)
+        ^ spread(register, a, 7)
+        ^ spread(register >> 8, b, 6)
+        ^ spread(register >> 16, c, 5)
+        ^ spread(register >> 24, d, 4)
 }

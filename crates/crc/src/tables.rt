@@ -1,4 +1,5 @@
 //! What a byte makes of the register. `TABLES[k][b]` is the register after the byte b, and k zero bytes behind it, from a register of 0.
+//! They are written out, since a constant's value may not be computed by a function.
 
 pub(crate) const TABLES: [[u32; 256]; 8] = [
     [

@@ -16,6 +16,7 @@ mod tests {
 
     #[test]
     fn known(rt: HostRuntime) {
+        assert_eq!(rt; Crc::default(), Crc::new());
         assert_eq!(rt; crc32(b""), 0);
         assert_eq!(rt; crc32(b"123456789"), 0xcbf4_3926);
         // "Example.one" and a null character, in UTF-16LE

@@ -1,11 +1,12 @@
 -- The walk over a list's fragments for their data, step by step.
-use Rattle.std.proofs.Common.{◌≡◌, ℕ, zero, suc, ◌+◌, ◌-◌, ◌<◌, ◌≤◌, true, ltb, List, [], ◌∷◌, ◌++◌, length, get_or, drop, IsErrAnd, Some, None, Ok, Err, Result, sym, refl, ap, ◌∙◌, subst, arith}
-use Rattle.std.proofs.lemmas.List.{append_assoc, append-nil, length-append, drop_all, drop_more, get_or_append_left, get_or-append-add}
+use Rattle.std.proofs.Common.{◌≡◌, ℕ, zero, suc, ◌+◌, ◌-◌, ◌^◌, ◌<◌, ◌≤◌, true, min, List, [], ◌∷◌, ◌++◌, length, get_or, take, drop, slice_range, IsErrAnd, Some, None, Ok, Err, Result, sym, refl, ap, ap₂, ◌∙◌, subst, arith}
+use Rattle.std.proofs.lemmas.List.{append_assoc, append-nil, length-append, drop_all, drop_more}
+use Rattle.std.specs.List.{AllByRecursion}
+use Rattle.std.proofs.Math.Seq.{take-append_seam, drop-append_seam}
 use Rattle.std.proofs.ByRecursion.{All-get_or}
-use Rattle.std.proofs.lemmas.Bool.Decides.{nat_tests}
 use Rattle.model.specs.declared.types.Span.{Span}
 use Rattle.model.specs.Bytes.{le}
-use Rattle.model.specs.Faults.{done}
+use Rattle.model.specs.Faults.{Check, done}
 use Rattle.model.specs.Nodes.{Node, hands_over, referring}
 use Rattle.model.specs.ListFragments.{nodes_from, nodes_to}
 use Rattle.model.specs.Section.{NodeList}
@@ -19,10 +20,9 @@ use Rattle.refusals.specs.Checked.{told_by, Checked}
 use Rattle.refusals.proofs.Told.{told_more, told_on}
 use Rattle.node_walk.proofs.NodeSteps.{walk_over, walk_end}
 use Rattle.tables.specs.declared.room.Row.{Row}
-use Rattle.lists_pass.proofs.Walkings.{referring_both}
 use Rattle.data_pass.specs.DataWalks.{part_nodes, Scans}
 use Rattle.data_pass.specs.ListWalks.{Lies, Remains, Passing, list_data}
-use Rattle.data_pass.proofs.DataSteps.{data_both}
+use Rattle.data_pass.proofs.DataSteps.{data_apart}
 
 -- a fragment read again gives its nodes, and the others stand in the fragments behind it
 record Read (b : List ℕ) (id : ℕ) (f : Span) (fs : List Span) (ns : List Node) (q : ℕ) : Type 0 where
@@ -60,133 +60,82 @@ remains_all : (b : List ℕ) (fs : List Span) (ns : List Node) (q : ℕ) → Spr
 remains_all b [] ns q s = elim s [ ]
 remains_all b (f ∷ fs) ns q s = s
 
--- the checks of some nodes and of others behind them
-data_apart : (end : ℕ) (all : List Span) (id : ℕ) (ns ms : List Node)
-    → data_checks end all id (referring 1 (ns ++ ms)) ≡ data_checks end all id (referring 1 ns) ++ data_checks end all id (referring 1 ms)
-data_apart end all id ns ms = ap (data_checks end all id) (referring_both 1 ns ms) ∙ data_both end all id (referring 1 ns) (referring 1 ms)
-
-passing_none : (b : List ℕ) (end : ℕ) (all : List Span) (l : NodeList) → Spread b l.fragments l.nodes l.free → Passing b end all l 0 (length l.nodes)
+-- the spans at a row's indices are the fragments of its list
+pub passing_none : (b : List ℕ) (end : ℕ) (all : List Span) (row : Row) (l : NodeList) (last : ℕ) (given spans : List Span) → Lies b end row all l → length all ≤ 2048
+    → last ≡ min (row.first + row.fragments) (2 ^ 64 - 1) → given ≡ all → spans ≡ slice_range given row.first last → Passing b end all row l spans 0 row.nodes
 unfolding referring
-passing_none b end all l s = record {
-  passed = [];
-  rest = l.nodes;
-  whole = refl;
-  none = refl;
-  remains = remains_all b l.fragments l.nodes l.free s;
-  number = refl;
-}
-
--- the next fragment f, and its nodes
-next : (b : List ℕ) (end : ℕ) (all : List Span) (l : NodeList) (i left : ℕ) (f : Span) (w : Passing b end all l i left) → i < length l.fragments → f ≡ get_or l.fragments i f
-    → Read b l.id f (drop (i + 1) l.fragments) w.rest l.free
-next b end all l i left f w lt e =
-    let d : drop i l.fragments ≡ f ∷ drop (i + 1) l.fragments = drop_more l.fragments i f lt ∙ ap (λ (x : Span). x ∷ drop (i + 1) l.fragments) (sym e) in
-    reads b l.id f (drop (i + 1) l.fragments) w.rest l.free (subst (λ fs. Remains b fs w.rest l.free) d w.remains)
+passing_none b end all row l last given spans x few e same is =
+    let first : row.first ≡ length x.before = ap (λ (r : Row). r.first) x.row_is in
+    let count : row.fragments ≡ length l.fragments = ap (λ (r : Row). r.fragments) x.row_is in
+    let long : length all ≡ length x.before + length (l.fragments ++ x.after) = ap length x.fragments_are ∙ length-append x.before (l.fragments ++ x.after) in
+    let size : last - row.first ≡ length l.fragments = omega (arith, length-append l.fragments x.after) in
+    let s : spans ≡ l.fragments
+    = is ∙ ap₂ take size (ap₂ drop first (same ∙ x.fragments_are) ∙ drop-append_seam x.before (l.fragments ++ x.after)) ∙ take-append_seam l.fragments x.after in
+    record {
+      id = ap (λ (r : Row). r.id) x.row_is;
+      inside = subst (λ fs. AllByRecursion (Inside 36 end) fs) (sym s) x.inside;
+      passed = [];
+      rest = l.nodes;
+      whole = refl;
+      none = refl;
+      remains = subst (λ fs. Remains b fs l.nodes l.free) (sym s) (remains_all b l.fragments l.nodes l.free x.spread);
+      number = ap (λ (r : Row). r.nodes) x.row_is;
+    }
 
 -- what checking a fragment's nodes answers
 abbrev pub Answers : List ℕ → ℕ → List Span → ℕ → ℕ → Span → Result ℕ InList → Type 0
 Answers b end all id left f r = (p : NodePart) → nodes_at left b id (nodes_to f) (nodes_from f) [] ≡ done p → Scans end all id left (part_nodes p) r
 
-passing_more : (b : List ℕ) (end : ℕ) (all : List Span) (l : NodeList) (i left : ℕ) (f : Span) (n : ℕ) → Passing b end all l i left → i < length l.fragments
-    → f ≡ get_or l.fragments i f → Answers b end all l.id left f (Ok n) → Passing b end all l (i + 1) n
-passing_more b end all l i left f n w lt e a =
-    let r = next b end all l i left f w lt e in
-    let ns = part_nodes r.part in
-    let (none, number) = a r.part (ap (λ k. nodes_at k b l.id (nodes_to f) (nodes_from f) []) w.number ∙ r.gives) in
-    record {
-      passed = w.passed ++ ns;
-      rest = r.more;
-      whole = w.whole ∙ ap (λ xs. w.passed ++ xs) r.split ∙ sym (append_assoc w.passed ns r.more);
-      none = ap told_by (data_apart end all l.id w.passed ns)
-          ∙ told_on (data_checks end all l.id (referring 1 w.passed)) (data_checks end all l.id (referring 1 ns)) w.none ∙ none;
-      remains = r.remains;
-      number = omega (arith, number, w.number, ap length r.split, length-append ns r.more);
-    }
+module _ (b : List ℕ) (end : ℕ) (all : List Span) (row : Row) (l : NodeList) (spans : List Span) (i left : ℕ) (w : Passing b end all row l spans i left) where
+  abbrev checks : List Node → List Check
+  checks ns = data_checks end all row.id (referring 1 ns)
 
-passing_err : (b : List ℕ) (end : ℕ) (all : List Span) (l : NodeList) (i left : ℕ) (f : Span) (x : InList) → Passing b end all l i left → i < length l.fragments
-    → f ≡ get_or l.fragments i f → Answers b end all l.id left f (Err x) → told_by (list_data end all l) ≡ Some (list_told x)
-passing_err b end all l i left f x w lt e a =
-    let r = next b end all l i left f w lt e in
-    let ns = part_nodes r.part in
-    let told = a r.part (ap (λ k. nodes_at k b l.id (nodes_to f) (nodes_from f) []) w.number ∙ r.gives) in
-    ap (λ xs. told_by (data_checks end all l.id (referring 1 xs))) (w.whole ∙ ap (λ xs. w.passed ++ xs) r.split)
-    ∙ ap told_by (data_apart end all l.id w.passed (ns ++ r.more))
-    ∙ told_on (data_checks end all l.id (referring 1 w.passed)) (data_checks end all l.id (referring 1 (ns ++ r.more))) w.none
-    ∙ ap told_by (data_apart end all l.id ns r.more)
-    ∙ told_more (data_checks end all l.id (referring 1 ns)) (data_checks end all l.id (referring 1 r.more)) (list_told x) told
+  told_of : (ns : List Node) → l.nodes ≡ ns → told_by (list_data end all l) ≡ told_by (checks ns)
+  told_of ns e = ap₂ (λ id xs. told_by (data_checks end all id (referring 1 xs))) (sym w.id) e
 
-passing_end : (b : List ℕ) (end : ℕ) (all : List Span) (l : NodeList) (i left : ℕ) → Passing b end all l i left → length l.fragments ≤ i → told_by (list_data end all l) ≡ None
-passing_end b end all l i left w le =
-    let none : w.rest ≡ [] = subst (λ fs. Remains b fs w.rest l.free) (drop_all i l.fragments le) w.remains in
-    ap (λ xs. told_by (data_checks end all l.id (referring 1 xs))) (w.whole ∙ ap (λ xs. w.passed ++ xs) none ∙ append-nil w.passed) ∙ w.none
+  pub passing_end : length spans ≤ i → told_by (list_data end all l) ≡ None
+  passing_end le =
+      let none : w.rest ≡ [] = subst (λ fs. Remains b fs w.rest l.free) (drop_all i spans le) w.remains in
+      told_of w.passed (w.whole ∙ ap (λ xs. w.passed ++ xs) none ∙ append-nil w.passed) ∙ w.none
 
--- the fragment at an index among all is that of the list, and lies in the file
-pub record There (end : ℕ) (row : Row) (all : List Span) (l : NodeList) (at : ℕ) (f : Span) : Type 0 where
-  pub under : at - row.first < length l.fragments
-  pub is : f ≡ get_or all at f → f ≡ get_or l.fragments (at - row.first) f
-  pub inside : f ≡ get_or all at f → Inside 36 end f
+  -- the next fragment, and its nodes
+  module _ (d : Span) (lt : i < length spans) where
+    abbrev f : Span
+    f = get_or spans i d
 
-fragment_at : (before fs after all : List Span) (i : ℕ) (f : Span) → all ≡ before ++ (fs ++ after) → i < length fs → get_or all (length before + i) f ≡ get_or fs i f
-fragment_at before fs after all i f e lt =
-    ap (λ xs. get_or xs (length before + i) f) e ∙ get_or-append-add before (fs ++ after) i f ∙ get_or_append_left fs after f i lt
+    -- it lies in the file, so it is not passed over
+    pub stays : Inside 36 end f
+    stays = All-get_or (λ (x : Span). Inside 36 end x) spans i d lt w.inside
 
-pub lies_there : (b : List ℕ) (end : ℕ) (row : Row) (all : List Span) (l : NodeList) (at : ℕ) (f : Span) → Lies b end row all l → row.first ≤ at → at < row.first + row.fragments
-    → There end row all l at f
-lies_there b end row all l at f x ge lt =
-    let i = at - row.first in
-    let first : row.first ≡ length x.before = ap (λ (r : Row). r.first) x.row_is in
-    let count : row.fragments ≡ length l.fragments = ap (λ (r : Row). r.fragments) x.row_is in
-    let under : i < length l.fragments = omega arith in
-    let place : at ≡ length x.before + i = omega arith in
-    let same : f ≡ get_or all at f → f ≡ get_or l.fragments i f
-    = λ e. e ∙ ap (λ k. get_or all k f) place ∙ fragment_at x.before l.fragments x.after all i f x.fragments_are under in
-    record {
-      under = under;
-      is = same;
-      inside = λ e. subst (λ (s : Span). Inside 36 end s) (sym (same e)) (All-get_or (λ (s : Span). Inside 36 end s) l.fragments i f under x.inside);
-    }
+    next : Read b row.id f (drop (i + 1) spans) w.rest l.free
+    next = reads b row.id f (drop (i + 1) spans) w.rest l.free (subst (λ fs. Remains b fs w.rest l.free) (drop_more spans i d lt) w.remains)
 
--- a fragment that lies in the file does not pass its end
-pub stays : (end : ℕ) (f : Span) → Inside 36 end f → true ≡ ltb end (f.start + f.size) → ⊥
-stays end f i e = let by : f.start + f.size ≤ end = i.1 in grind (arith, nat_tests)
+    abbrev ns : List Node
+    ns = part_nodes next.part
 
--- the index is one of all
-pub lies_under : (b : List ℕ) (end : ℕ) (row : Row) (all : List Span) (l : NodeList) → Lies b end row all l → row.first + row.fragments ≤ length all
-lies_under b end row all l x =
-    let first : row.first ≡ length x.before = ap (λ (r : Row). r.first) x.row_is in
-    let count : row.fragments ≡ length l.fragments = ap (λ (r : Row). r.fragments) x.row_is in
-    let long : length all ≡ length x.before + length (l.fragments ++ x.after) = ap length x.fragments_are ∙ length-append x.before (l.fragments ++ x.after) in
-    omega (arith, length-append l.fragments x.after)
+    whole : l.nodes ≡ w.passed ++ (ns ++ next.more)
+    whole = w.whole ∙ ap (λ xs. w.passed ++ xs) next.split
 
--- ---- the same for the row of a list
+    scans : (r : Result ℕ InList) → Answers b end all row.id left f r → Scans end all row.id left ns r
+    scans r a = a next.part (ap (λ k. nodes_at k b row.id (nodes_to f) (nodes_from f) []) w.number ∙ next.gives)
 
-pub walk_none : (b : List ℕ) (end : ℕ) (row : Row) (all : List Span) (l : NodeList) → Lies b end row all l → Passing b end all l (row.first - row.first) row.nodes
-walk_none b end row all l x =
-    let i : 0 ≡ row.first - row.first = omega arith in
-    subst (λ n. Passing b end all l (row.first - row.first) n) (sym (ap (λ (r : Row). r.nodes) x.row_is))
-    (subst (λ k. Passing b end all l k (length l.nodes)) i (passing_none b end all l x.spread))
+    pub passing_more : (n : ℕ) → Answers b end all row.id left f (Ok n) → Passing b end all row l spans (i + 1) n
+    passing_more n a =
+        let (none, number) = scans (Ok n) a in
+        record {
+          id = w.id;
+          inside = w.inside;
+          passed = w.passed ++ ns;
+          rest = next.more;
+          whole = whole ∙ sym (append_assoc w.passed ns next.more);
+          none = ap told_by (data_apart end all row.id w.passed ns) ∙ told_on (checks w.passed) (checks ns) w.none ∙ none;
+          remains = next.remains;
+          number = omega (arith, number, w.number, ap length next.split, length-append ns next.more);
+        }
 
-id_is : (b : List ℕ) (end : ℕ) (row : Row) (all : List Span) (l : NodeList) (left : ℕ) (f : Span) (r : Result ℕ InList) → Lies b end row all l
-    → Answers b end all row.id left f r → Answers b end all l.id left f r
-id_is b end row all l left f r x a = subst (λ id. Answers b end all id left f r) (ap (λ (y : Row). y.id) x.row_is) a
-
-pub walk_more : (b : List ℕ) (end : ℕ) (row : Row) (all : List Span) (l : NodeList) (at left : ℕ) (f : Span) (n : ℕ) → Lies b end row all l
-    → Passing b end all l (at - row.first) left → row.first ≤ at → at < row.first + row.fragments → f ≡ get_or all at f → Answers b end all row.id left f (Ok n)
-    → Passing b end all l (at + 1 - row.first) n
-walk_more b end row all l at left f n x w ge lt e a =
-    let t = lies_there b end row all l at f x ge lt in
-    let i : at - row.first + 1 ≡ at + 1 - row.first = omega arith in
-    subst (λ k. Passing b end all l k n) i (passing_more b end all l (at - row.first) left f n w t.under (t.is e) (id_is b end row all l left f (Ok n) x a))
-
-pub walk_err : (b : List ℕ) (end : ℕ) (row : Row) (all : List Span) (l : NodeList) (at left : ℕ) (f : Span) (y : InList) (r : Result (Unit {0}) InList) → Lies b end row all l
-    → Passing b end all l (at - row.first) left → row.first ≤ at → at < row.first + row.fragments → f ≡ get_or all at f → Answers b end all row.id left f (Err y)
-    → IsErrAnd r (λ z. z ≡ y) → Checked (list_data end all l) r
-walk_err b end row all l at left f y (Ok u) x w ge lt e a g = absurd g
-walk_err b end row all l at left f y (Err z) x w ge lt e a g =
-    let t = lies_there b end row all l at f x ge lt in
-    passing_err b end all l (at - row.first) left f y w t.under (t.is e) (id_is b end row all l left f (Err y) x a) ∙ ap (λ v. Some (list_told v)) (sym g)
-
-pub walk_end_list : (b : List ℕ) (end : ℕ) (row : Row) (all : List Span) (l : NodeList) (at left : ℕ) → Lies b end row all l
-    → Passing b end all l (at - row.first) left → row.first + row.fragments ≤ at → told_by (list_data end all l) ≡ None
-walk_end_list b end row all l at left x w ge =
-    passing_end b end all l (at - row.first) left w (omega (arith, ap (λ (r : Row). r.fragments) x.row_is))
+    pub passing_err : (y : InList) (r : Result (Unit {0}) InList) → Answers b end all row.id left f (Err y) → IsErrAnd r (λ z. z ≡ y) → Checked (list_data end all l) r
+    passing_err y (Ok u) a g = absurd g
+    passing_err y (Err z) a g =
+        told_of (w.passed ++ (ns ++ next.more)) whole ∙ ap told_by (data_apart end all row.id w.passed (ns ++ next.more))
+        ∙ told_on (checks w.passed) (checks (ns ++ next.more)) w.none ∙ ap told_by (data_apart end all row.id ns next.more)
+        ∙ told_more (checks ns) (checks next.more) (list_told y) (scans (Err y) a) ∙ ap (λ v. Some (list_told v)) (sym g)

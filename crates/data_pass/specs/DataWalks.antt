@@ -1,7 +1,7 @@
 -- The data references of a fragment's nodes.
 use Rattle.std.specs.Prelude.{◌≡◌, ℕ, ◌+◌, ◌-◌, cond, ◌&&◌, List, [], ◌∷◌, length, Some, None, Ok, Err, Result, ◌==◌, nat_lt}
 use Rattle.model.specs.declared.types.Span.{Span}
-use Rattle.model.specs.Faults.{fault, Check}
+use Rattle.model.specs.Faults.{fault, Check, Outcome}
 use Rattle.model.specs.References.{present}
 use Rattle.model.specs.Nodes.{Node, referring}
 use Rattle.model.specs.OpenedLog.{overlaps}
@@ -23,12 +23,12 @@ abbrev pub part_nodes : NodePart → List Node
 part_nodes (counted ns q) = ns
 part_nodes (uncounted ns) = ns
 
--- k nodes were read again from `from` on, and the data of none is wrong
-pub record Scanned (b : List ℕ) (end : ℕ) (fs : List Span) (left list stop from k place : ℕ) : Type 0 where
+-- k nodes were read again, up to a place, and the data of none is wrong; the whole walk goes on there
+pub record Scanned (b : List ℕ) (end : ℕ) (fs : List Span) (left list : ℕ) (whole : Outcome NodePart) (stop k place : ℕ) : Type 0 where
   pub nodes : List Node
   pub number : k ≡ length nodes
   pub none : told_by (data_checks end fs list (referring 1 nodes)) ≡ None
-  pub goes : nodes_at left b list stop from [] ≡ nodes_at (left - k) b list stop place nodes
+  pub goes : whole ≡ nodes_at (left - k) b list stop place nodes
 
 -- the answer to checking the data of the nodes ms, of which `left` may come
 abbrev pub Scans : ℕ → List Span → ℕ → ℕ → List Node → Result ℕ InList → Type 0

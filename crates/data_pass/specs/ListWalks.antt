@@ -1,5 +1,5 @@
 -- The data references of a list's nodes, read again fragment by fragment, and those of all lists.
-use Rattle.std.specs.Prelude.{◌≡◌, ℕ, List, [], ◌∷◌, ◌++◌, map, length, drop, None}
+use Rattle.std.specs.Prelude.{◌≡◌, ℕ, List, [], ◌∷◌, ◌++◌, map, length, take, drop, None}
 use Rattle.std.specs.List.{AllByRecursion}
 use Rattle.model.specs.declared.types.Span.{Span}
 use Rattle.model.specs.Faults.{Check}
@@ -25,22 +25,20 @@ abbrev pub Remains : List ℕ → List Span → List Node → ℕ → Type 0
 Remains b [] ns q = ns ≡ []
 Remains b (f ∷ fs) ns q = Spread b (f ∷ fs) ns q
 
--- i fragments of the list l were read again, and the data of none of their nodes is wrong; `left` nodes are left
-pub record Passing (b : List ℕ) (end : ℕ) (all : List Span) (l : NodeList) (i left : ℕ) : Type 0 where
+-- i of the spans, the fragments of the row's list l, were read again, and the data of none of their nodes is wrong; `left` nodes are left
+pub record Passing (b : List ℕ) (end : ℕ) (all : List Span) (row : Row) (l : NodeList) (spans : List Span) (i left : ℕ) : Type 0 where
+  pub id : row.id ≡ l.id
+  pub inside : AllByRecursion (Inside 36 end) spans
   pub passed : List Node
   pub rest : List Node
   pub whole : l.nodes ≡ passed ++ rest
-  pub none : told_by (data_checks end all l.id (referring 1 passed)) ≡ None
-  pub remains : Remains b (drop i l.fragments) rest l.free
+  pub none : told_by (data_checks end all row.id (referring 1 passed)) ≡ None
+  pub remains : Remains b (drop i spans) rest l.free
   pub number : left ≡ length rest
 
 abbrev pub list_data : ℕ → List Span → NodeList → List Check
 list_data end all l = data_checks end all l.id (referring 1 l.nodes)
 
 -- the data of the first k lists is right
-pub record Seen (end : ℕ) (all : List Span) (ls : List NodeList) (k : ℕ) : Type 0 where
-  pub passed : List NodeList
-  pub rest : List NodeList
-  pub whole : ls ≡ passed ++ rest
-  pub number : k ≡ length passed
-  pub none : told_by (flat (map (list_data end all) passed)) ≡ None
+abbrev pub Seen : ℕ → List Span → List NodeList → ℕ → Type 0
+Seen end all ls k = told_by (flat (map (list_data end all) (take k ls))) ≡ None

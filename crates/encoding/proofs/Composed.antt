@@ -1,59 +1,35 @@
--- Fragments and entries, as they are put together.
-use Rattle.std.proofs.Common.{◌≡◌, ℕ, ◌+◌, ◌-◌, ◌<◌, ◌≤◌, List, [], ◌∷◌, ◌++◌, length, get_or, drop, sym, ap, ◌∙◌, append_assoc, arith}
+-- Nodes and entries, as they are put together.
+use Rattle.std.proofs.Common.{◌≡◌, ℕ, ◌+◌, ◌≤◌, ◌<◌, List, [], ◌++◌, Option, None, Some, length, get_or, drop, refl, sym, ap, append_assoc}
 use Rattle.std.proofs.lemmas.List.{drop_more, drop_all}
 use Rattle.model.specs.declared.types.Span.{Span}
 use Rattle.model.specs.declared.types.Entry.{Entry}
 use Rattle.model.specs.Bytes.{digits}
-use Rattle.model.specs.References.{nil, span_bytes}
-use Rattle.model.specs.Nodes.{plain_node, referring_node}
-use Rattle.model.specs.ListFragments.{first_mark, last_mark, new_fragment}
 use Rattle.model.specs.LogFragments.{entry_bytes}
 use Rattle.commits.proofs.Sizes.{length_plain, length_referring}
-use Rattle.encoding.specs.declared.buffer.WriteBuffer.{WriteBuffer}
-use Rattle.encoding.specs.Buffers.{most, pushed, zeros}
-use Rattle.encoding.proofs.Pushes.{held, pushed_both, pushed_none, pushed_two, pushed_three}
+use Rattle.encoding.specs.declared.parts.NewNode.{NewNode}
+use Rattle.encoding.specs.NewNodes.{written_node, node_bytes, written_head, head_bytes}
 
--- a fragment's beginning, its node and its end
-fragment_parts : (list number left : ℕ) (node : List ℕ) → left ≡ 988 - length node
-    → (digits 8 first_mark ++ (digits 4 list ++ digits 4 number)) ++ (node ++ (zeros left ++ (span_bytes nil ++ digits 8 last_mark))) ≡ new_fragment list number node
-fragment_parts list number left node e = rw e (simp append_assoc)
+-- a node is its head and its payload
+parts : (id : ℕ) (refers : Option (ℕ × Span)) (payload : List ℕ) → written_head id refers (length payload) ++ payload ≡ written_node id refers payload
+parts id None payload = refl
+parts id (Some (b, r)) payload = simp append_assoc
 
-pub fragment_pushed : (list number left : ℕ) (node : List ℕ) (old x y z : WriteBuffer) → left ≡ 988 - length node
-    → held x ≡ pushed (held old) (digits 8 first_mark ++ (digits 4 list ++ digits 4 number)) → held y ≡ pushed (held x) node
-    → held z ≡ pushed (held y) (zeros left ++ (span_bytes nil ++ digits 8 last_mark)) → held z ≡ pushed (held old) (new_fragment list number node)
-fragment_pushed list number left node old x y z e p q r =
-    pushed_three old x y z (digits 8 first_mark ++ (digits 4 list ++ digits 4 number)) node (zeros left ++ (span_bytes nil ++ digits 8 last_mark)) p q r
-    ∙ ap (pushed (held old)) (fragment_parts list number left node e)
+pub node_parts : (n : NewNode) → node_bytes n ≡ head_bytes n ++ n.payload.now
+node_parts n = sym (parts n.id n.refers n.payload.now)
 
-pub plain_left : (id : ℕ) (payload : List ℕ) (left : ℕ) → left ≡ 984 - length payload → left ≡ 988 - length (plain_node id payload)
-plain_left id payload left e = let l = length_plain id payload in omega arith
+-- how many bytes it takes
+pub plain_length : (n : NewNode) → n.refers ≡ None → length (node_bytes n) ≡ 4 + length n.payload.now
+plain_length n e = rw e (length_plain n.id n.payload.now)
 
-pub referring_left : (id base : ℕ) (r : Span) (payload : List ℕ) (left : ℕ) → left ≡ 972 - length payload → left ≡ 988 - length (referring_node id base r payload)
-referring_left id base r payload left e = let l = length_referring id base r payload in omega arith
+pub referring_length : (n : NewNode) (x : ℕ × Span) → n.refers ≡ Some x → length (node_bytes n) ≡ 16 + length n.payload.now
+referring_length n (b, r) e = rw e (length_referring n.id b r n.payload.now)
 
--- entries: what is left gives the whole
-entry_pushed : (old x y : WriteBuffer) (e : Entry) (es : List Entry) → held x ≡ pushed (held old) (digits 4 e.source) → held y ≡ pushed (held x) (digits 4 e.number)
-    → pushed (held y) (entry_bytes es) ≡ pushed (held old) (entry_bytes (e ∷ es))
+-- the entries from the i-th on: the i-th and those behind it
+pub entries_from : (es : List Entry) (i : ℕ) (d : Entry) → i < length es
+    → entry_bytes (drop i es) ≡ digits 4 (get_or es i d).source ++ (digits 4 (get_or es i d).number ++ entry_bytes (drop (i + 1) es))
 unfolding entry_bytes
-entry_pushed old x y e es p q =
-    let first = digits 4 e.source in
-    let second = digits 4 e.number in
-    ap (λ r. pushed r (entry_bytes es)) (pushed_two old x y first second p q)
-    ∙ pushed_both (held old) (first ++ second) (entry_bytes es)
-    ∙ ap (pushed (held old)) (append_assoc first second (entry_bytes es))
+entries_from es i d l = ap entry_bytes (drop_more es i d l)
 
-pub entries_more : (start old x y : WriteBuffer) (es : List Entry) (i : ℕ) (d : Entry) → i < length es
-    → held x ≡ pushed (held old) (digits 4 (get_or es i d).source) → held y ≡ pushed (held x) (digits 4 (get_or es i d).number)
-    → pushed (held old) (entry_bytes (drop i es)) ≡ pushed (held start) (entry_bytes es)
-    → pushed (held y) (entry_bytes (drop (i + 1) es)) ≡ pushed (held start) (entry_bytes es)
-entries_more start old x y es i d l p q inv =
-    entry_pushed old x y (get_or es i d) (drop (i + 1) es) p q
-    ∙ ap (λ zs. pushed (held old) (entry_bytes zs)) (sym (drop_more es i d l))
-    ∙ inv
-
-pub entries_all : (start x : WriteBuffer) (es : List Entry) (i : ℕ) → length es ≤ i → length (held x) ≤ most
-    → pushed (held x) (entry_bytes (drop i es)) ≡ pushed (held start) (entry_bytes es) → held x ≡ pushed (held start) (entry_bytes es)
+pub entries_none : (es : List Entry) (i : ℕ) → length es ≤ i → entry_bytes (drop i es) ≡ []
 unfolding entry_bytes
-entries_all start x es i l few inv =
-    let none : drop i es ≡ [] = drop_all i es l in
-    sym (pushed_none (held x) few) ∙ ap (λ zs. pushed (held x) (entry_bytes zs)) (sym none) ∙ inv
+entries_none es i l = ap entry_bytes (drop_all i es l)

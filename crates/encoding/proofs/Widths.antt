@@ -23,7 +23,11 @@ digits_wide (suc w) (suc n) v h =
     let k : v / 256 < 256 ^ w = (div-lt_iff_lt-mul {k = 256} (omega arith)).1 (rw (← pow-suc 256 w) h) in
     simp unary_clauses (ap (λ xs. (v % 256) ∷ xs) (digits_wide w n (v / 256) k))
 
-pub eight_digits : (v : ℕ) → (v % 256) ∷ (v / 256 % 256) ∷ (v / 65536 % 256) ∷ (v / 16777216 % 256) ∷ (v / 4294967296 % 256) ∷ (v / 1099511627776 % 256) ∷ (v / 281474976710656 % 256) ∷ (v / 72057594037927936 % 256) ∷ [] ≡ digits 8 v
+-- a number's eight bytes, as `to_le_bytes` tells them
+abbrev pub eight_bytes : ℕ → List ℕ
+eight_bytes v = (v % 256) ∷ (v / 256 % 256) ∷ (v / 65536 % 256) ∷ (v / 16777216 % 256) ∷ (v / 4294967296 % 256) ∷ (v / 1099511627776 % 256) ∷ (v / 281474976710656 % 256) ∷ (v / 72057594037927936 % 256) ∷ []
+
+pub eight_digits : (v : ℕ) → eight_bytes v ≡ digits 8 v
 unfolding digits
 eight_digits v = simp div-div-eq-div-mul
 
@@ -40,7 +44,7 @@ digits_low (suc n) v k =
 
 -- a number's eight bytes, cut to a width or with zeros behind them
 pub digits_split : (v width n m : ℕ) (bytes : List ℕ) → v < 2 ^ 64
-    → bytes ≡ (v % 256) ∷ (v / 256 % 256) ∷ (v / 65536 % 256) ∷ (v / 16777216 % 256) ∷ (v / 4294967296 % 256) ∷ (v / 1099511627776 % 256) ∷ (v / 281474976710656 % 256) ∷ (v / 72057594037927936 % 256) ∷ []
+    → bytes ≡ eight_bytes v
     → n ≡ min width 8 → m ≡ n → take m bytes ++ zeros (width - n) ≡ digits width v
 digits_split v width n m bytes h e a b =
     let l : length (digits 8 v) ≡ 8 = length_digits 8 v in
@@ -49,8 +53,7 @@ digits_split v width n m bytes h e a b =
     rw (e, eight_digits v, cut, left) (digits_wide 8 width v h)
 
 -- the lowest four bytes of a node's first number
-pub head_low : (id fixed payload base : ℕ) → digits 4 (id + 1024 * (fixed + payload % 4194304) + 134217728 * base + 2147483648) ≡ node_head id (fixed + payload) base
-head_low id fixed payload base =
-    let v : ℕ = id + 1024 * (fixed + payload % 4194304) + 134217728 * base + 2147483648 in
+pub head_low : (v id fixed payload base : ℕ) → v ≡ id + 1024 * (fixed + payload % 4194304) + 134217728 * base + 2147483648 → digits 4 v ≡ node_head id (fixed + payload) base
+head_low v id fixed payload base h =
     let e : v + 256 ^ 4 * (payload / 4194304) ≡ id + 2 ^ 10 * (fixed + payload) + 2 ^ 27 * base + 2 ^ 31 = omega arith in
     sym (digits_low 4 v (payload / 4194304)) ∙ ap (digits 4) e

@@ -5,7 +5,7 @@ abbrev pub most : ℕ
 most = 65544
 
 -- what a buffer holds, once `new` is put behind `old`: no more than it takes
-abbrev pub pushed : List ℕ → List ℕ → List ℕ
+unfoldable pub pushed : List ℕ → List ℕ → List ℕ
 pushed old new = take most (old ++ new)
 
 -- how many zeros lead from a place to the next one divisible by 8

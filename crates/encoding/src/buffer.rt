@@ -1,9 +1,11 @@
 //! A buffer with all of its room reserved, so that nothing allocates later.
-ghost use Rattle.std.specs.Prelude.{◌≡◌, ◌+◌, ◌≤◌, [], length, IfOk, if◌then◌else◌, vec_len, vec_capacity, nat_le};
+ghost use Rattle.std.specs.Prelude.{◌≡◌, ◌+◌, ◌≤◌, [], length, IfOk, if◌then◌else◌, is_ok, vec_len, vec_capacity, nat_le};
 ghost use Rattle.model.specs.Bytes.{digits, written};
 ghost use Rattle.encoding.specs.Buffers.{pushed, to_eight, zeros};
 
 use std::alloc::{AllocError, Global};
+use std::error::Error;
+use std::fmt;
 
 /// A buffer takes so many bytes: data of 65,536 with the zeros behind it.
 pub const MOST_BYTES: usize = 65544;
@@ -11,7 +13,20 @@ pub const MOST_BYTES: usize = 65544;
 // A number has so many bytes; those past them are 0.
 const NUMBER_BYTES: usize = 8;
 
+/// The bytes would pass the end of what is there.
+#[derive(Clone, Copy, Debug, PartialEq, Eq)]
+pub struct OutOfRange;
+
+impl fmt::Display for OutOfRange {
+    fn fmt<W: fmt::Write>(&self, f: &mut fmt::Formatter<W>) -> fmt::Result {
+        f.write_str("the bytes pass the end of what is there")
+    }
+}
+
+impl Error for OutOfRange {}
+
 /// The bytes of one write; a full buffer takes no more.
+// It has a `Vec` of its own, since it takes as much of a row as there is room for; a `Bounded` takes one value at a time.
 #[derive(Drop)]
 pub struct WriteBuffer {
     bytes: Vec<u8>,
@@ -49,26 +64,29 @@ impl WriteBuffer {
     }
 
     /// Puts bytes behind the others, as many as there is room for.
+    #[tactic(auto, using(crate::proofs::Pushes::push_of_part))]
     pub fn push_bytes(&mut self, new: &[u8])
         ensures { self.new.bytes.items ≡ pushed self.old.bytes.items new.now }
     {
         let room = MOST_BYTES - self.bytes.len();
         let n = new.len().min(room);
         // the room is reserved, so this never fails
-        let _ = self.bytes.extend_from_slice(&new[0..n]);
+        self.bytes.extend_from_slice(&new[0..n]).unwrap();
     }
 
     /// Puts zeros behind the bytes, as many as there is room for.
+    #[tactic(auto, using(crate::proofs::Pushes::push_of_zeros))]
     pub fn push_zeros(&mut self, n: usize)
         ensures { self.new.bytes.items ≡ pushed self.old.bytes.items (zeros n) }
     {
         let len = self.bytes.len();
         let end = len + n.min(MOST_BYTES - len);
         // the room is reserved, so this never fails
-        let _ = self.bytes.resize(end, 0);
+        self.bytes.resize(end, 0).unwrap();
     }
 
     /// Puts the lowest `width` bytes of a number behind the others, the lowest first.
+    #[tactic(auto, using(crate::proofs::Pushes::pushed_both, crate::proofs::Widths::digits_split))]
     pub fn push_number(&mut self, width: usize, v: u64)
         ensures { self.new.bytes.items ≡ pushed self.old.bytes.items (digits width v) }
     {
@@ -88,17 +106,16 @@ impl WriteBuffer {
     }
 
     /// Puts bytes in place of those at `place` and on, unless they would pass the end.
-    pub fn set_at(&mut self, place: usize, new: &[u8]) -> bool
-        ensures answer { result ≡ nat_le (place + length new.now) (length self.old.bytes.items) }
-        ensures row { self.new.bytes.items ≡ (if result then written self.old.bytes.items place new.now else self.old.bytes.items) }
+    #[tactic(auto, unfolding(model::specs::Bytes::written))]
+    pub fn set_at(&mut self, place: usize, new: &[u8]) -> Result<(), OutOfRange>
+        ensures answer { is_ok result ≡ nat_le (place + length new.now) (length self.old.bytes.items) }
+        ensures row { self.new.bytes.items ≡ (if is_ok result then written self.old.bytes.items place new.now else self.old.bytes.items) }
     {
-        let len = self.bytes.len();
-        if place > len || new.len() > len - place {
-            return false;
+        let end = place.checked_add(new.len()).ok_or(OutOfRange)?;
+        if end > self.bytes.len() {
+            return Err(OutOfRange);
         }
-        let all = self.bytes.as_mut_slice();
-        let into = &mut all[place..place + new.len()];
-        into.copy_from_slice(new);
-        true
+        self.bytes[place..end].copy_from_slice(new);
+        Ok(())
     }
 }

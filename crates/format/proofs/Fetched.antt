@@ -1,28 +1,54 @@
 -- What a buffer holds after a read, and the numbers in it.
-use Rattle.std.proofs.Common.{◌≡◌, ℕ, zero, suc, ◌+◌, ◌-◌, ◌<◌, ◌≤◌, min, List, ◌++◌, length, get_or, take, drop, set, Ok, Err, Result, sym, refl, ap, ◌∙◌, inl, inr, ⊎_elim, add-zero, add_assoc, arith}
-use Rattle.std.proofs.lemmas.List.{places, ext_get_or, get_or_past, get_or-set_same, get_or-set_other}
-use Rattle.std.proofs.lemmas.Bool.{cases_lt, cases_eq}
+use Rattle.std.proofs.Common.{◌≡◌, ℕ, zero, suc, ◌+◌, ◌-◌, ◌<◌, ◌≤◌, min, List, ◌++◌, length, get_or, take, drop, replicate, Ok, Err, Result, sym, refl, ap, ◌∙◌, inl, inr, ⊎_elim, add-zero, add_assoc, zero-add, arith}
+use Rattle.std.proofs.lemmas.List.{places, ext_get_or, get_or_past}
+use Rattle.std.proofs.lemmas.Bool.{cases_lt}
 use Rattle.model.specs.Bytes.{le, piece}
 use Rattle.store.specs.declared.base.StoreFault.{StoreFault}
 use Rattle.store.specs.Rows.{Reads}
 use Rattle.format.specs.Windows.{Window}
 
+-- n bytes that stand elsewhere, with zeros behind them, are the same number
+pub le_padded : (m n : ℕ) (b c : List ℕ) (p q : ℕ) → n ≤ m → ((i : ℕ) → i < n → get_or b (p + i) 0 ≡ get_or c (q + i) 0) → ((i : ℕ) → n ≤ i → i < m → get_or b (p + i) 0 ≡ 0)
+    → le m b p ≡ le n c q
+unfolding le
+le_padded zero zero b c p q h s z = refl
+le_padded zero (suc n) b c p q h s z = absurd (omega arith)
+le_padded (suc m) zero b c p q h s z =
+    let e = le_padded m zero b c (p + 1) q (omega arith) (λ i l. absurd (omega arith)) (λ i k l. rw add_assoc (z (1 + i) (omega arith) (omega arith))) in
+    let f = rw add-zero at (z 0 (omega arith) (omega arith)) in
+    omega (arith, e, f)
+le_padded (suc m) (suc n) b c p q h s z =
+    cc (
+      add-zero p,
+      add-zero q,
+      s 0 (omega arith),
+      le_padded m n b c (p + 1) (q + 1) (omega arith) (λ i l. rw (add_assoc, add_assoc) (s (1 + i) (omega arith)))
+          (λ i k l. rw add_assoc (z (1 + i) (omega arith) (omega arith))),
+    )
+
 -- n bytes that stand elsewhere are the same number
 pub le_moved : (n : ℕ) (b c : List ℕ) (p q : ℕ) → ((i : ℕ) → i < n → get_or b (p + i) 0 ≡ get_or c (q + i) 0) → le n b p ≡ le n c q
-unfolding le
-le_moved zero b c p q s = refl
-le_moved (suc n) b c p q s =
-    cc (add-zero p, add-zero q, s 0 (omega arith), le_moved n b c (p + 1) (q + 1) (λ i l. rw (add_assoc, add_assoc) (s (1 + i) (omega arith))))
+le_moved n b c p q s = le_padded n n b c p q (omega arith) s (λ i h l. absurd (omega arith))
 
 -- the number of n bytes of a buffer, at k
 pub le_window : (n : ℕ) (row buffer : List ℕ) (p k : ℕ) → Window row p buffer → k + n ≤ length buffer → le n buffer k ≡ le n row (p + k)
 le_window n row buffer p k w h = le_moved n buffer row k (p + k) (λ i l. w (k + i) (omega arith) ∙ ap (λ j. get_or row j 0) (sym (add_assoc p k i)))
 
+-- the number of its first n bytes
+pub le_front : (n : ℕ) (row buffer : List ℕ) (p : ℕ) → Window row p buffer → n ≤ length buffer → le n buffer 0 ≡ le n row p
+le_front n row buffer p w h = le_window n row buffer p 0 w (omega arith) ∙ ap (le n row) (add-zero p)
+
+-- the number of a part of a buffer, from k on
+pub le_part : (row buffer part : List ℕ) (p k n : ℕ) → Window row p buffer → k + n ≤ length buffer → length part ≡ n → ((i : ℕ) → i < n → get_or part i 0 ≡ get_or buffer (k + i) 0)
+    → le (length part) part 0 ≡ le n row (p + k)
+le_part row buffer part p k n w h e s =
+    ap (λ m. le m part 0) e ∙ le_moved n part buffer 0 k (λ i l. ap (λ j. get_or part j 0) (zero-add i) ∙ s i l) ∙ le_window n row buffer p k w h
+
 past : (row : List ℕ) (p n m i : ℕ) → n ≡ min (length row - p) m → n ≤ i → i < m → get_or row (p + i) 0 ≡ 0
 past row p n m i e h l = get_or_past row (p + i) 0 (omega arith)
 
 -- a buffer with zeros from n on, n being as many bytes as the row has from p on, or as the buffer takes: a read of n bytes makes it a window
-pub window_read : {T : Type 0} (row : List ℕ) (p n : ℕ) (was is : List ℕ) (r : Result T StoreFault) → n ≡ min (length row - p) (length was)
+window_read : {T : Type 0} (row : List ℕ) (p n : ℕ) (was is : List ℕ) (r : Result T StoreFault) → n ≡ min (length row - p) (length was)
     → ((i : ℕ) → n ≤ i → i < length was → get_or was i 0 ≡ 0) → Reads row p n was is r → Window row p is
 unfolding piece
 window_read row p n was is (Ok x) e z (a, f, q) i h =
@@ -41,13 +67,14 @@ window_read row p n was is (Err x) e z (a, same, q) i h =
     length_none : (row : List ℕ) (p n : ℕ) (was : List ℕ) → n ≡ min (length row - p) (length was) → (p + n ≤ length row → n ≤ length was → ⊥) → length row < p + n
     length_none row p n was e a = elim (cases_lt (length row) (p + n)) [ inl lt ↦ lt | inr ge ↦ absurd (a ge (omega arith)) ]
 
--- one byte more is set to 0
-pub zero_more : (xs : List ℕ) (lo i : ℕ) → i < length xs → ((k : ℕ) → lo ≤ k → k < i → get_or xs k 0 ≡ 0) → (k : ℕ) → lo ≤ k → k < i + 1 → get_or (set xs i 0) k 0 ≡ 0
-zero_more xs lo i l z k a b =
-    ⊎_elim
-    (λ (e : k ≡ i). ap (λ j. get_or (set xs i 0) j 0) e ∙ get_or-set_same xs i 0 0 l)
-    (λ (ne : k ≡ i → ⊥). get_or-set_other xs i k 0 0 ne ∙ z k a (omega arith))
-    (cases_eq k i)
+-- so a read into a buffer whose part from n on was filled with 0
+pub window_fill : {T : Type 0} (row : List ℕ) (p n : ℕ) (buffer part is : List ℕ) (r : Result T StoreFault) → n ≡ min (length row - p) (length buffer)
+    → part ≡ replicate (length (take (length buffer - n) (drop n buffer))) 0 → Reads row p n (take n buffer ++ (part ++ drop (length buffer - n) (drop n buffer))) is r
+    → Window row p is
+window_fill row p n buffer part is r e z d =
+    let was = take n buffer ++ (part ++ drop (length buffer - n) (drop n buffer)) in
+    let l : length was ≡ length buffer = grind (arith, places) in
+    window_read row p n was is r (e ∙ ap (min (length row - p)) (sym l)) (λ i a b. grind (arith, places)) d
 
 -- a buffer that is a window into a row is a piece of it, where the row reaches so far
 pub piece_window : (row buffer : List ℕ) (p n : ℕ) → Window row p buffer → length buffer ≡ n → p + n ≤ length row → buffer ≡ piece row p n

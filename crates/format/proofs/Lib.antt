@@ -1,3 +1,4 @@
 pub mod Fetched
+pub mod FormSteps
 pub mod Numbers
 pub mod Referred

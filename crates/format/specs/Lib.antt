@@ -1,3 +1,5 @@
 pub mod Windows
+pub mod Forms
 pub mod Pairs
 pub mod Heads
+pub mod Targets

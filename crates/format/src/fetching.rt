@@ -1,5 +1,5 @@
 //! Bytes and numbers at a place of any store. Past the end of the store all bytes are 0, so no call is refused.
-ghost use Rattle.std.specs.Prelude.{◌≡◌, ℕ};
+ghost use Rattle.std.specs.Prelude.{◌≡◌, ℕ, length};
 ghost use Rattle.model.specs.Bytes.{le};
 ghost use Rattle.format.specs.Windows.{Window};
 
@@ -10,26 +10,57 @@ pub fn fetch<S: Store>(store: &S, place: u64, buffer: &mut [u8])
     ensures { Window (S.Store.bytes store.now) place buffer.new }
 {
     let there = store.len().saturating_sub(place).min(buffer.len() as u64) as usize;
-    for i in there..buffer.len() {
-        buffer[i] = 0;
-    }
+    buffer[there..].fill(0);
     let _ = store.read(place, there, buffer);
 }
 
-/// The number of the four bytes at `place`, the lowest byte first.
-pub fn u32_at<S: Store>(store: &S, place: u64) -> u32
-    ensures { result ≡ le 4 (S.Store.bytes store.now) place }
+/// The `N` bytes at `place`.
+pub fn bytes_at<S: Store, const N: usize>(store: &S, place: u64) -> [u8; N]
+    ensures { Window (S.Store.bytes store.now) place result }
 {
-    let mut four = [0u8; 4];
-    fetch(store, place, &mut four);
-    u32::from_le_bytes(four)
+    let mut bytes = [0; N];
+    fetch(store, place, &mut bytes);
+    bytes
 }
 
-/// The number of the eight bytes at `place`, the lowest byte first.
-pub fn u64_at<S: Store>(store: &S, place: u64) -> u64
-    ensures { result ≡ le 8 (S.Store.bytes store.now) place }
+/// A number that stands in a store, the lowest byte first.
+pub trait Number {
+    /// How many bytes it takes.
+    ghost width: { ℕ };
+
+    /// The number that it is.
+    ghost value: { Self → ℕ };
+
+    /// The number at `place`.
+    fn read<S: Store>(store: &S, place: u64) -> Self
+        ensures { value result ≡ le width (S.Store.bytes store.now) place };
+}
+
+impl Number for u32 {
+    ghost width = { 4 };
+
+    ghost value = { λ n. n };
+
+    #[tactic(auto, using(crate::proofs::Fetched::le_front), unfolding(model::specs::Bytes::le))]
+    fn read<S: Store>(store: &S, place: u64) -> u32 {
+        u32::from_le_bytes(bytes_at(store, place))
+    }
+}
+
+impl Number for u64 {
+    ghost width = { 8 };
+
+    ghost value = { λ n. n };
+
+    #[tactic(auto, using(crate::proofs::Fetched::le_front), unfolding(model::specs::Bytes::le))]
+    fn read<S: Store>(store: &S, place: u64) -> u64 {
+        u64::from_le_bytes(bytes_at(store, place))
+    }
+}
+
+/// The number at `place`, as wide as its type: one name for all widths.
+pub fn number_at<N: Number, S: Store>(store: &S, place: u64) -> N
+    ensures { N.value result ≡ le N.width (S.Store.bytes store.now) place }
 {
-    let mut eight = [0u8; 8];
-    fetch(store, place, &mut eight);
-    u64::from_le_bytes(eight)
+    N::read(store, place)
 }

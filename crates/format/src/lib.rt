@@ -2,6 +2,7 @@
 #![tactic(auto)]
 
 pub mod fetching;
+mod forms;
 pub mod headers;
 pub mod nodes;
 pub mod references;

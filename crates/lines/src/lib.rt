@@ -1,8 +1,6 @@
 //! The lines of a listing: numbers in columns of 12.
 #![tactic(auto)]
 
-pub mod words;
-
 use column::column;
 use model::types::Fault;
 use section::access::Figures;
@@ -16,7 +14,7 @@ pub fn listed<S: Store>(heap: Global, file: &mut File<S>, mark: u64) -> Result<S
     let mut out = String::new(heap);
     match file.open(mark) {
         Ok(figures) => push_listing(&mut out, figures, file.lists())?,
-        Err(fault) => push_refusal(&mut out, fault.told())?,
+        Err(fault) => push_refusal(&mut out, fault.into())?,
     }
     Ok(out)
 }
@@ -24,7 +22,7 @@ pub fn listed<S: Store>(heap: Global, file: &mut File<S>, mark: u64) -> Result<S
 /// Appends the listing of an opened file.
 pub fn push_listing(out: &mut String, figures: Figures, lists: &[Row]) -> Result<(), AllocError> {
     let first = [
-        figures.count as u64,
+        u64::from(figures.count),
         figures.end,
         figures.lists as u64,
         figures.fragments as u64,
@@ -32,23 +30,28 @@ pub fn push_listing(out: &mut String, figures: Figures, lists: &[Row]) -> Result
     ];
     push_line(out, &first)?;
     for row in lists {
-        push_line(
-            out,
-            &[row.id as u64, row.nodes as u64, row.fragments as u64],
-        )?;
+        let line = [
+            u64::from(row.id),
+            u64::from(row.nodes),
+            row.fragments as u64,
+        ];
+        push_line(out, &line)?;
     }
     Ok(())
 }
 
 /// Appends what a refusal tells: number, layer, place, list.
 pub fn push_refusal(out: &mut String, fault: Fault) -> Result<(), AllocError> {
-    let told = [
-        fault.number as u64,
-        fault.layer as u64,
-        fault.place,
-        fault.list as u64,
-    ];
-    push_line(out, &told)
+    let Fault {
+        number,
+        layer,
+        place,
+        list,
+    } = fault;
+    push_line(
+        out,
+        &[u64::from(number), u64::from(layer), place, u64::from(list)],
+    )
 }
 
 /// Appends a line of numbers, each in its column.
@@ -63,17 +66,14 @@ pub fn push_line(out: &mut String, numbers: &[u64]) -> Result<(), AllocError> {
 fn push_number(out: &mut String, n: u64) -> Result<(), AllocError> {
     match column(n) {
         Some(bytes) => push_bytes(out, &bytes),
-        None => {
-            out.push(' ')?;
-            let digits = n.to_string(*out.allocator())?;
-            out.push_str(digits.as_str())
-        }
+        None => write!(out, " {n}"),
     }
 }
 
+// The column's bytes are digits and spaces, so each is a character.
 fn push_bytes(out: &mut String, bytes: &[u8]) -> Result<(), AllocError> {
     for b in bytes {
-        out.push(*b as char)?;
+        out.push(char::from(*b))?;
     }
     Ok(())
 }

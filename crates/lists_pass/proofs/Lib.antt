@@ -2,5 +2,4 @@ pub mod Walkings
 pub mod ListSteps
 pub mod ListWalks
 pub mod FirstSteps
-pub mod FirstNames
 pub mod Openings

@@ -1,6 +1,7 @@
 -- One list after the other: what is left to read gives what the whole gives.
-use Rattle.std.proofs.Common.{◌≡◌, ℕ, zero, suc, ◌+◌, ◌-◌, ◌<◌, ◌≤◌, true, false, ◌||◌, eqb, ltb, ◌⊎◌, List, [], ◌∷◌, ◌++◌, length, get_or, drop, IsErrAnd, Ok, Err, Result, sym, refl, ap, ◌∙◌, ap₂, inl, inr, append_assoc, append-nil, add-zero, add-one, arith, drop-cons}
+use Rattle.std.proofs.Common.{◌≡◌, ℕ, zero, suc, ◌+◌, ◌-◌, ◌<◌, ◌≤◌, true, false, ◌||◌, eqb, ltb, ◌⊎◌, List, [], ◌∷◌, ◌++◌, length, get_or, Some, None, slice_get, drop, sym, refl, ap, ◌∙◌, ap₂, inl, inr, append_assoc, append-nil, add-zero, add-one, arith, drop-cons}
 use Rattle.std.proofs.lemmas.List.{length-append, length-map, length-take, get_or-take, get_or-map, drop-append-le, drop_all}
+use Rattle.std.proofs.lemmas.Option.{get_or_from_slice_get, slice_get_within, slice_get_cases}
 use Rattle.std.proofs.lemmas.Bool.{cases_lt}
 use Rattle.std.proofs.lemmas.Bool.Decides.{nat_tests}
 use Rattle.model.specs.declared.types.Span.{Span}
@@ -12,14 +13,12 @@ use Rattle.model.specs.Section.{Log, NodeList, count_in, list_fragments}
 use Rattle.model.specs.OpenedLists.{taken, list_from, named_by, named_first, named_list, lists_from}
 use Rattle.counts.specs.declared.changes.Change.{Change}
 use Rattle.counts.specs.Noted.{noted}
-use Rattle.refusals.specs.declared.faults.InList.{InList}
 use Rattle.tables.specs.declared.room.Row.{Row}
-use Rattle.tables.specs.declared.room.Named.{Named}
-use Rattle.refusals.specs.Refusals.{list_told}
+use Rattle.tables.specs.declared.queue.Named.{Named}
 use Rattle.tables.specs.Queues.{pair_of, Held}
 use Rattle.tables.specs.Rows.{row_of, rows_of, row_taken, SameIds}
 use Rattle.lists_pass.specs.Listings.{list_of, Listed}
-use Rattle.lists_pass.specs.Opening.{Holds, Opening, AllRead, ReadsAll}
+use Rattle.lists_pass.specs.Opening.{Opening, AllRead}
 
 rows_more : (at : ℕ) (ls : List NodeList) (l : NodeList) → rows_of at (ls ++ (l ∷ [])) ≡ rows_of at ls ++ (row_of (at + length (list_fragments ls)) l ∷ [])
 rows_more at [] l = ap (λ k. row_of k l ∷ []) (sym (add-zero at))
@@ -61,15 +60,10 @@ list_named b h log cs before rows ls q l c f =
     let e : ltb (length rows) 1024 ≡ true = grind (arith, nat_tests) in
     rw e (ap₂ (λ n fs. list_from (2048 - length fs) b h.end n ls fs id q.field q.span [] []) (c id) f)
 
-lists_done : (n k : ℕ) (b : List ℕ) (h : Header) (log : Log) (q : ℕ × Span) (qs : List (ℕ × Span)) (ls : List NodeList) (l : NodeList) → n ≡ suc k
-    → named_list b h log ls q (owner b q.1) ≡ done l → lists_from n b h log (q ∷ qs) ls ≡ lists_from k b h log (qs ++ named_by l) (ls ++ (l ∷ []))
+lists_next : (n k : ℕ) (b : List ℕ) (h : Header) (log : Log) (q : ℕ × Span) (qs : List (ℕ × Span)) (ls : List NodeList) → n ≡ suc k
+    → lists_from n b h log (q ∷ qs) ls ≡ then (named_list b h log ls q (owner b q.1)) (λ l. lists_from k b h log (qs ++ named_by l) (ls ++ (l ∷ [])))
 unfolding lists_from
-lists_done n k b h log q qs ls l e d = ap (λ m. lists_from m b h log (q ∷ qs) ls) e ∙ ap (λ o. then o (λ x. lists_from k b h log (qs ++ named_by x) (ls ++ (x ∷ [])))) d
-
-lists_refused : (n k : ℕ) (b : List ℕ) (h : Header) (log : Log) (q : ℕ × Span) (qs : List (ℕ × Span)) (ls : List NodeList) (e : Fault) → n ≡ suc k
-    → named_list b h log ls q (owner b q.1) ≡ refused e → lists_from n b h log (q ∷ qs) ls ≡ refused e
-unfolding lists_from
-lists_refused n k b h log q qs ls e m d = ap (λ j. lists_from j b h log (q ∷ qs) ls) m ∙ ap (λ o. then o (λ x. lists_from k b h log (qs ++ named_by x) (ls ++ (x ∷ [])))) d
+lists_next n k b h log q qs ls e = rw e
 
 lists_full : (n : ℕ) (b : List ℕ) (h : Header) (log : Log) (cs : List Change) (before : List Span) (rows : List Row) (q : Named) (qs : List (ℕ × Span)) (ls : List NodeList) (e : Fault)
     → n ≡ 0 → 1024 ≤ length rows → list_of b h.end cs before rows ls q ≡ refused e → lists_from n b h log (pair_of q ∷ qs) ls ≡ refused e
@@ -90,49 +84,54 @@ opening_none b h log rows all queue f r q = record {
   goes = refl;
 }
 
--- the rows read so far have the IDs of the lists
-pub opening_ids : (b : List ℕ) (h : Header) (log : Log) (n : ℕ) (rows : List Row) (all : List Span) (queue : List Named) (o : Opening b h log n rows all queue)
+-- the rows read so far have the IDs of the lists, and are as many
+opening_ids : {b : List ℕ} {h : Header} {log : Log} {n : ℕ} {rows : List Row} {all : List Span} {queue : List Named} (o : Opening b h log n rows all queue)
     → SameIds o.lists rows
-opening_ids b h log n rows all queue o id = same_ids (length log.fragments) o.lists id ∙ ap (row_taken id) (sym o.row)
+opening_ids {log = log} o id = rw o.row (same_ids (length log.fragments) o.lists id)
 
-pub opening_length : (b : List ℕ) (h : Header) (log : Log) (n : ℕ) (rows : List Row) (all : List Span) (queue : List Named) → Opening b h log n rows all queue → n ≡ length rows
-opening_length b h log n rows all queue o = o.number ∙ sym (rows_length (length log.fragments) o.lists) ∙ ap length (sym o.row)
+opening_length : {b : List ℕ} {h : Header} {log : Log} {n : ℕ} {rows : List Row} {all : List Span} {queue : List Named} → Opening b h log n rows all queue → n ≡ length rows
+opening_length {log = log} o = rw o.row (o.number ∙ sym (rows_length (length log.fragments) o.lists))
 
-pub opening_more : (b : List ℕ) (h : Header) (log : Log) (cs : List Change) (n : ℕ) (rows after : List Row) (all more : List Span) (queue is : List Named) (q : Named)
-    → Opening b h log n rows all queue → ((id : ℕ) → noted cs id ≡ count_in log.transactions id) → n < length queue → q ≡ get_or queue n q
+-- the next name is the first of those that are left
+opening_next : {b : List ℕ} {h : Header} {log : Log} {n : ℕ} {rows : List Row} {all : List Span} {queue : List Named} {q : Named} (o : Opening b h log n rows all queue)
+    → n < 1025 → slice_get queue n ≡ Some q
+    → lists_from 1024 b h log (named_first h) [] ≡ lists_from (1024 - n) b h log (pair_of q ∷ drop (n + 1) o.names) o.lists
+opening_next {n = n} {queue = queue} {q} o l s =
+    let d = name_at queue o.names n q o.held (slice_get_within queue n q s) l (sym (get_or_from_slice_get queue n q q s)) in
+    o.goes ∙ rw d
+
+pub opening_more : {b : List ℕ} {h : Header} {log : Log} (cs : List Change) {n : ℕ} {rows after : List Row} {all more : List Span} {queue is : List Named} (q : Named)
+    → Opening b h log n rows all queue → ((id : ℕ) → noted cs id ≡ count_in log.transactions id) → slice_get queue n ≡ Some q
     → Listed b h.end cs all rows q after more queue is → Opening b h log (n + 1) after more is
-opening_more b h log cs n rows after all more queue is q o c l e x =
-    let k : n ≡ length rows = opening_length b h log n rows all queue o in
+opening_more {b} {h} {log} cs {n} {rows} {after} {all} {queue = queue} q o c g x =
+    let k = opening_length o in
+    let l = slice_get_within queue n q g in
     let m : n < 1024 = omega (arith, x.few) in
-    let d : drop n o.names ≡ pair_of q ∷ drop (n + 1) o.names = name_at queue o.names n q o.held l (omega arith) e in
     let named : named_list b h log o.lists (pair_of q) (owner b q.span) ≡ done x.list
-    = sym (list_named b h log cs all rows o.lists q x.few c o.fragments) ∙ x.gives o.lists (opening_ids b h log n rows all queue o) in
+    = sym (list_named b h log cs all rows o.lists q x.few c o.fragments) ∙ x.gives o.lists (opening_ids o) in
     let long : n + 1 ≤ length o.names = omega (arith, ap length o.held, length-map queue pair_of, length-take 1025 o.names) in
-    let size : length all ≡ length log.fragments + length (list_fragments o.lists) = ap length o.fragments ∙ length-append log.fragments (list_fragments o.lists) in
+    let size : length all ≡ length log.fragments + length (list_fragments o.lists) = rw o.fragments (length-append log.fragments (list_fragments o.lists)) in
     record {
       lists = o.lists ++ (x.list ∷ []);
       names = o.names ++ named_by x.list;
       number = omega (arith, o.number, length-append o.lists (x.list ∷ []));
       held = x.names o.names o.held;
       row = x.row ∙ ap₂ (λ rs j. rs ++ (row_of j x.list ∷ [])) o.row size ∙ sym (rows_more (length log.fragments) o.lists x.list);
-      fragments = x.held ∙ ap (λ fs. fs ++ x.list.fragments) o.fragments ∙ append_assoc log.fragments (list_fragments o.lists) x.list.fragments
-          ∙ ap (λ fs. log.fragments ++ fs) (sym (fragments_more o.lists x.list));
-      goes = o.goes ∙ ap (λ xs. lists_from (1024 - n) b h log xs o.lists) d
-          ∙ lists_done (1024 - n) (1024 - (n + 1)) b h log (pair_of q) (drop (n + 1) o.names) o.lists x.list (omega arith) named
-          ∙ ap (λ xs. lists_from (1024 - (n + 1)) b h log xs (o.lists ++ (x.list ∷ []))) (sym (drop-append-le (n + 1) o.names (named_by x.list) long));
+      fragments = x.held ∙ rw (o.fragments, fragments_more o.lists x.list, append_assoc);
+      goes = opening_next o (omega arith) g ∙ lists_next (1024 - n) (1024 - (n + 1)) b h log (pair_of q) (drop (n + 1) o.names) o.lists (omega arith)
+          ∙ rw (named, drop-append-le (n + 1) o.names (named_by x.list) long);
     }
 
-pub opening_refused : (b : List ℕ) (h : Header) (log : Log) (cs : List Change) (n : ℕ) (rows : List Row) (all : List Span) (queue : List Named) (q : Named) (e : Fault)
-    → Opening b h log n rows all queue → ((id : ℕ) → noted cs id ≡ count_in log.transactions id) → n < length queue → n < 1025 → q ≡ get_or queue n q
+pub opening_refused : {b : List ℕ} {h : Header} {log : Log} (cs : List Change) {n : ℕ} {rows : List Row} {all : List Span} {queue : List Named} (q : Named) {e : Fault}
+    → Opening b h log n rows all queue → ((id : ℕ) → noted cs id ≡ count_in log.transactions id) → n < 1025 → slice_get queue n ≡ Some q
     → ((ls : List NodeList) → SameIds ls rows → list_of b h.end cs all rows ls q ≡ refused e) → lists_from 1024 b h log (named_first h) [] ≡ refused e
-opening_refused b h log cs n rows all queue q e o c l m g x =
-    let k : n ≡ length rows = opening_length b h log n rows all queue o in
-    let d : drop n o.names ≡ pair_of q ∷ drop (n + 1) o.names = name_at queue o.names n q o.held l m g in
-    let here = x o.lists (opening_ids b h log n rows all queue o) in
-    o.goes ∙ ap (λ xs. lists_from (1024 - n) b h log xs o.lists) d
+opening_refused {b} {h} {log} cs {n} {rows} {all} q {e} o c m g x =
+    let k = opening_length o in
+    let here = x o.lists (opening_ids o) in
+    opening_next o m g
     ∙ elim (cases_lt n 1024) [
-      | inl lt ↦ lists_refused (1024 - n) (1024 - (n + 1)) b h log (pair_of q) (drop (n + 1) o.names) o.lists e (omega arith)
-          (sym (list_named b h log cs all rows o.lists q (omega arith) c o.fragments) ∙ here)
+      | inl lt ↦ lists_next (1024 - n) (1024 - (n + 1)) b h log (pair_of q) (drop (n + 1) o.names) o.lists (omega arith)
+          ∙ rw (sym (list_named b h log cs all rows o.lists q (omega arith) c o.fragments) ∙ here)
       | inr ge ↦ lists_full (1024 - n) b h log cs all rows q (drop (n + 1) o.names) o.lists e (omega arith) (omega arith) here
     ]
 
@@ -141,32 +140,24 @@ unfolding lists_from
 lists_none zero b h log ls = refl
 lists_none (suc n) b h log ls = refl
 
-pub opening_end : (b : List ℕ) (h : Header) (log : Log) (n : ℕ) (rows : List Row) (all : List Span) (queue : List Named) → Opening b h log n rows all queue
-    → length queue ≤ n → n < 1025 → AllRead b h log rows all
-opening_end b h log n rows all queue o l m = record {
-  lists = o.lists;
-  row = o.row;
-  fragments = o.fragments;
-  gives = o.goes ∙ ap (λ xs. lists_from (1024 - n) b h log xs o.lists) (names_end queue o.names n o.held l m) ∙ lists_none (1024 - n) b h log o.lists;
-}
+pub opening_end : {b : List ℕ} {h : Header} {log : Log} {n : ℕ} {rows : List Row} {all : List Span} {queue : List Named} → Opening b h log n rows all queue
+    → None ≡ slice_get queue n → n < 1025 → AllRead b h log rows all
+opening_end {b} {h} {log} {n} {queue = queue} o s m =
+    let l : length queue ≤ n = grind (arith, slice_get_cases {X = Named}) in
+    record {
+      lists = o.lists;
+      row = o.row;
+      fragments = o.fragments;
+      gives = o.goes ∙ rw (names_end queue o.names n o.held l m) (lists_none (1024 - n) b h log o.lists);
+    }
 
--- a refusal handed on is the same refusal
-pub reads_err : {T : Type 0} (b : List ℕ) (h : Header) (log : Log) (rows : List Row) (all : List Span) (r : Result T InList) (e : InList) → IsErrAnd r (λ y. y ≡ e)
-    → lists_from 1024 b h log (named_first h) [] ≡ refused (list_told e) → ReadsAll b h log rows all r
-reads_err b h log rows all (Ok u) e h' q = absurd h'
-reads_err b h log rows all (Err y) e h' q = q ∙ ap (λ z. refused (list_told z)) (sym h')
-
-pub listed_few : (b : List ℕ) (end : ℕ) (cs : List Change) (before : List Span) (rows : List Row) (q : Named) (after : List Row) (all : List Span) (was is : List Named)
+pub listed_few : {b : List ℕ} {end : ℕ} {cs : List Change} {before : List Span} {rows : List Row} {q : Named} {after : List Row} {all : List Span} {was is : List Named}
     → Listed b end cs before rows q after all was is → length after ≤ 1024
-listed_few b end cs before rows q after all was is x =
+listed_few {before = before} {rows} x =
     omega (arith, x.few, ap length x.row, length-append rows (row_of (length before) x.list ∷ []))
 
 -- there is no 1,025th list
-pub opening_few : (b : List ℕ) (h : Header) (log : Log) (n : ℕ) (rows : List Row) (all : List Span) (queue : List Named) → Opening b h log n rows all queue
+pub opening_few : {b : List ℕ} {h : Header} {log : Log} {n : ℕ} {rows : List Row} {all : List Span} {queue : List Named} → Opening b h log n rows all queue
     → (length rows ≤ 1024) ⊎ (n ≡ 0) → 1024 < n → ⊥
-opening_few b h log n rows all queue o (inl f) l = omega (arith, opening_length b h log n rows all queue o)
-opening_few b h log n rows all queue o (inr f) l = omega arith
-
--- the same with other terms for the room's parts
-pub holds_at : (log : Log) (cs now : List Change) (all there : List Span) (rows are : List Row) → now ≡ cs → there ≡ all → are ≡ rows → Holds log cs all rows → Holds log now there are
-holds_at log cs now all there rows are c f r h = record { counts = λ id. ap (λ k. noted k id) c ∙ h.counts id; fragments = f ∙ h.fragments; none = r ∙ h.none }
+opening_few o (inl f) l = omega (arith, opening_length o)
+opening_few o (inr f) l = omega arith

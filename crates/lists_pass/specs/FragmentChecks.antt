@@ -8,7 +8,7 @@ use Rattle.model.specs.OpenedLog.{outside, overlaps}
 use Rattle.counts.specs.declared.changes.Change.{Change}
 use Rattle.counts.specs.Noted.{noted}
 use Rattle.tables.specs.declared.room.Row.{Row}
-use Rattle.tables.specs.declared.room.Named.{Named}
+use Rattle.tables.specs.declared.queue.Named.{Named}
 use Rattle.tables.specs.Rows.{row_taken}
 
 -- the place of a fragment behind all that were taken in; 13 full: there are 2,048

@@ -1,5 +1,5 @@
 -- Reading one list whole, in the definitions' words.
-use Rattle.std.specs.Prelude.{◌≡◌, ℕ, ◌+◌, ◌-◌, ◌<◌, ◌≤◌, cond, List, [], ◌∷◌, ◌++◌, length, Ok, Err, Result, nat_lt}
+use Rattle.std.specs.Prelude.{◌≡◌, ℕ, ◌+◌, ◌-◌, ◌<◌, cond, List, [], ◌∷◌, ◌++◌, length, Ok, Err, Result, nat_lt}
 use Rattle.model.specs.declared.types.Span.{Span}
 use Rattle.model.specs.Faults.{fault, Outcome, done, refused, unless, then}
 use Rattle.model.specs.Nodes.{Node}
@@ -11,21 +11,18 @@ use Rattle.counts.specs.declared.changes.Change.{Change}
 use Rattle.counts.specs.Noted.{noted}
 use Rattle.refusals.specs.declared.faults.InList.{InList}
 use Rattle.tables.specs.declared.room.Row.{Row}
-use Rattle.tables.specs.declared.room.Named.{Named}
-use Rattle.lists_pass.specs.declared.Begun.{Begun}
+use Rattle.tables.specs.declared.queue.Named.{Named}
+use Rattle.lists_pass.specs.declared.begun.Begun.{Begun}
 use Rattle.refusals.specs.Refusals.{list_told}
 use Rattle.tables.specs.Queues.{Names, names_of}
 use Rattle.tables.specs.Rows.{row_of, SameIds}
 
 -- a list's first fragment has passed
-pub record Begins (b : List ℕ) (end : ℕ) (cs : List Change) (q : Named) (at : ℕ) (x : Begun) : Type 0 where
+pub record Begins (b : List ℕ) (cs : List Change) (q : Named) (at : ℕ) (x : Begun) : Type 0 where
   pub list : x.list ≡ owner b q.span
   pub count : x.count ≡ noted cs (owner b q.span)
-  pub counted : 1 ≤ x.count
   pub first : x.first ≡ at
-  pub fragment : x.fragment ≡ q.span
-  pub least : 36 ≤ x.fragment.size
-  pub inside : x.fragment.start + x.fragment.size ≤ end
+  pub fragment : x.fragment.span ≡ q.span
   pub few : at < 2048
 
 -- what is left of a list behind the checks of its fragment f; fs and ns were read before
@@ -43,7 +40,7 @@ pub record Listing (b : List ℕ) (end : ℕ) (before : List Span) (x : Begun) (
   pub held : all ≡ before ++ (fs ++ (f ∷ []))
   pub names : Names was (names_of nodes) is
   pub goes : (ls : List NodeList)
-      → rest_of b end x.count before x.list ls x.fragment [] [] ≡ rest_of b end x.count before x.list ls f fs nodes
+      → rest_of b end x.count before x.list ls x.fragment.span [] [] ≡ rest_of b end x.count before x.list ls f fs nodes
 
 -- a list was read whole: it has one more row, its fragments stand behind those before, and what it names behind all names
 pub record Rested (b : List ℕ) (end : ℕ) (before : List Span) (x : Begun) (rows after : List Row) (all : List Span) (was is : List Named) : Type 0 where
@@ -51,12 +48,12 @@ pub record Rested (b : List ℕ) (end : ℕ) (before : List Span) (x : Begun) (r
   pub row : after ≡ rows ++ (row_of (length before) list ∷ [])
   pub held : all ≡ before ++ list.fragments
   pub names : Names was (named_by list) is
-  pub gives : (ls : List NodeList) → rest_of b end x.count before x.list ls x.fragment [] [] ≡ done list
+  pub gives : (ls : List NodeList) → rest_of b end x.count before x.list ls x.fragment.span [] [] ≡ done list
 
 abbrev pub Rests : {T : Type 0} → List ℕ → ℕ → List Span → Begun → List Row → List Row → List Span → List Named → List Named → Result T InList → Type 0
 Rests b end before x rows after all was is (Ok u) = Rested b end before x rows after all was is
 Rests b end before x rows after all was is (Err e) =
-    (ls : List NodeList) → rest_of b end x.count before x.list ls x.fragment [] [] ≡ refused (list_told e)
+    (ls : List NodeList) → rest_of b end x.count before x.list ls x.fragment.span [] [] ≡ refused (list_told e)
 
 -- the list that a name stands for, behind the rows and the fragments read before; the 1,025th is refused
 unfoldable pub list_of : List ℕ → ℕ → List Change → List Span → List Row → List NodeList → Named → Outcome NodeList

@@ -9,7 +9,7 @@ use Rattle.counts.specs.declared.changes.Change.{Change}
 use Rattle.counts.specs.Noted.{noted}
 use Rattle.refusals.specs.declared.faults.InList.{InList}
 use Rattle.tables.specs.declared.room.Row.{Row}
-use Rattle.tables.specs.declared.room.Named.{Named}
+use Rattle.tables.specs.declared.queue.Named.{Named}
 use Rattle.refusals.specs.Refusals.{list_told}
 use Rattle.tables.specs.Queues.{Held}
 use Rattle.tables.specs.Rows.{rows_of}

@@ -1,15 +1,12 @@
 //! Opening the lists: each that is named, walked whole before the next.
 #![tactic(auto)]
 
-ghost use Rattle.std.specs.Prelude.{◌≡◌, ◌+◌, ◌-◌, ◌^◌, ◌<◌, ◌≤◌, ◌&&◌, [], ◌∷◌, ◌++◌, take, IfOk, if◌then◌else◌, vec_len, OnOk, ◌==◌};
+ghost use Rattle.std.specs.Prelude.{◌≡◌, ◌^◌, ◌<◌, ◌≤◌, [], ◌∷◌, ◌++◌, length, take, IfOk, vec_len, OnOk};
 ghost use Rattle.counts.specs.Noted.{noted};
-ghost use Rattle.model.specs.Faults.{fault};
-ghost use Rattle.model.specs.References.{present, span_at};
-ghost use Rattle.model.specs.ListFragments.{owner, nodes_to};
+ghost use Rattle.model.specs.References.{span_at};
+ghost use Rattle.model.specs.ListFragments.{nodes_to};
 ghost use Rattle.model.specs.Section.{Log};
-ghost use Rattle.model.specs.OpenedLog.{outside};
 ghost use Rattle.model.specs.OpenedLists.{named_first};
-ghost use Rattle.refusals.specs.Refusals.{list_fault};
 ghost use Rattle.refusals.specs.Checked.{Checked};
 ghost use Rattle.lists_pass.specs.FragmentChecks.{place_checks, label_checks, mislabelled, first_checks, next_checks, begin_checks};
 ghost use Rattle.lists_pass.specs.Listings.{Begins, Rests, Lists};
@@ -17,44 +14,38 @@ ghost use Rattle.lists_pass.specs.Opening.{Holds, ReadsAll};
 ghost use Rattle.tables.specs.Queues.{Held, Names, name_of};
 ghost use Rattle.lists_pass.specs.Parts.{Walks};
 
-use format::fetching::{u32_at, u64_at};
-use format::nodes::NodeHead;
+use crate::begun::Begun;
+use format::fetching::number_at;
+use format::nodes::{NodeHead, Target};
 use format::references::{is_absent, span_at};
 use header_pass::checked::CheckedHeader;
+use model::limits::{MOST_FRAGMENTS, MOST_LISTS};
+use model::marks::{FIRST_MARK, LAST_MARK};
 use model::types::{Header, Span};
-use node_walk::{is_bad, node_before, nodes_from, nodes_to};
+use node_walk::fragments::ListFragment;
+use node_walk::{is_bad, node_before};
 use refusals::faults::{InList, ListFault};
 use store::base::Store;
-use tables::places::{Kind, Misplaced, is_outside};
-use tables::room::{MOST_FRAGMENTS, MOST_LISTS, Named, Room, Row};
+use tables::fragments::Fragments;
+use tables::places::Kind;
+use tables::queue::{Named, Queue};
+use tables::room::{Room, Row};
+
+mod begun;
 
 // Where the header refers to the root list and to the hashed chunk list.
 const ROOT_FIELD: u64 = 0xAC;
 
 const HASHED_FIELD: u64 = 0x94;
 
-// The marks before and behind a fragment.
-const FIRST_MARK: u64 = 0xA456_7AB1_F5F7_F4C4;
-
-const LAST_MARK: u64 = 0x8BC2_15C3_8233_BA4B;
-
 // List IDs begin here.
 const LEAST_ID: u32 = 16;
 
 // What was read of a fragment's nodes: how many, and the place behind the last of them.
-#[derive(Clone, Copy)]
+#[derive(Clone, Copy, PartialEq, Eq, Debug)]
 struct Part {
     nodes: u32,
     free: u64,
-}
-
-// A list whose first fragment has passed: its ID, its count, that fragment, and where it stands among all.
-#[derive(Clone, Copy)]
-struct Begun {
-    list: u32,
-    count: u32,
-    first: usize,
-    fragment: Span,
 }
 
 /// Reads all lists: those that the header names, and then those that are met.
@@ -63,110 +54,117 @@ pub fn read_lists<S: Store>(
     checked: &CheckedHeader,
     room: &mut Room,
 ) -> Result<(), InList>
-    ensures answer { (log : Log) → Holds log room.old.counts.changes.items room.old.fragments.items room.old.lists.items → room.old.queue.items ≡ [] → ReadsAll (S.Store.bytes store.now) checked.now.header log room.new.lists.items room.new.fragments.items result }
+    ensures answer { (log : Log) → Holds log room.old.counts.changes.items room.old.fragments room.old.lists → room.old.queue ≡ [] → ReadsAll (S.Store.bytes store.now) checked.now.header log room.new.lists room.new.fragments result }
     ensures counts { room.new.counts ≡ room.old.counts }
 {
-    read_all(store, &checked.header, room)
-}
-
-// Reads all lists of a file that is no longer than any may be.
-fn read_all<S: Store>(store: &S, header: &Header, room: &mut Room) -> Result<(), InList>
-    requires { header.now.end ≤ 2 ^ 40 }
-    ensures answer { (log : Log) → Holds log room.old.counts.changes.items room.old.fragments.items room.old.lists.items → room.old.queue.items ≡ [] → ReadsAll (S.Store.bytes store.now) header.now log room.new.lists.items room.new.fragments.items result }
-    ensures counts { room.new.counts ≡ room.old.counts }
-{
-    name_first(header, room);
-    read_named(store, header, room)
+    name_first(&checked.header, &mut room.queue);
+    read_named(store, checked, room)
 }
 
 // Names the root, and the hashed chunk list unless it is absent.
-fn name_first(header: &Header, room: &mut Room)
-    ensures queue { Names room.old.queue.items (named_first header.now) room.new.queue.items }
-    ensures counts { room.new.counts ≡ room.old.counts }
-    ensures fragments { room.new.fragments ≡ room.old.fragments }
-    ensures lists { room.new.lists ≡ room.old.lists }
+fn name_first(header: &Header, queue: &mut Queue)
+    ensures { Names queue.old (named_first header.now) queue.new }
 {
-    room.name(ROOT_FIELD, header.root);
-    if is_absent(header.hashed) {
-        return;
+    queue.name(ROOT_FIELD, header.root);
+    if !is_absent(header.hashed) {
+        queue.name(HASHED_FIELD, header.hashed);
     }
-    room.name(HASHED_FIELD, header.hashed);
 }
 
-// Reads the lists of the queue, each whole before the next; it grows by those that are met.
-fn read_named<S: Store>(store: &S, header: &Header, room: &mut Room) -> Result<(), InList>
-    requires { header.now.end ≤ 2 ^ 40 }
-    ensures answer { (log : Log) → Holds log room.old.counts.changes.items room.old.fragments.items room.old.lists.items → Held room.old.queue.items (named_first header.now) → ReadsAll (S.Store.bytes store.now) header.now log room.new.lists.items room.new.fragments.items result }
+// Reads the lists of the queue, each whole before the next. It grows by those that are met, so they are reached by number.
+// Store, header and room are no struct here: the room is lent again in parts at each step, and only it changes.
+#[tactic(auto, using(crate::proofs::Openings::opening_none))]
+fn read_named<S: Store>(store: &S, checked: &CheckedHeader, room: &mut Room) -> Result<(), InList>
+    ensures answer { (log : Log) → Holds log room.old.counts.changes.items room.old.fragments room.old.lists → Held room.old.queue (named_first checked.now.header) → ReadsAll (S.Store.bytes store.now) checked.now.header log room.new.lists room.new.fragments result }
     ensures counts { room.new.counts ≡ room.old.counts }
 {
     for next in 0..MOST_LISTS + 1 {
-        if next >= room.queue.len() {
+        let Some(named) = room.queue.get(next) else {
             return Ok(());
-        }
-        let named = room.queue[next];
-        read_list(store, header.end, room, named)?;
+        };
+        read_list(store, checked, room, named)?;
     }
     Ok(())
 }
 
 // Reads the list that a reference names, unless there are as many as there may be.
-fn read_list<S: Store>(store: &S, end: u64, room: &mut Room, named: Named) -> Result<(), InList>
-    requires { end ≤ 2 ^ 40 }
-    ensures answer { Lists (S.Store.bytes store.now) end room.old.counts.changes.items room.old.fragments.items room.old.lists.items named room.new.lists.items room.new.fragments.items room.old.queue.items room.new.queue.items result }
+#[tactic(auto, using(crate::proofs::ListWalks::held_first, crate::proofs::FirstSteps::listed_full))]
+fn read_list<S: Store>(
+    store: &S,
+    checked: &CheckedHeader,
+    room: &mut Room,
+    named: Named,
+) -> Result<(), InList>
+    ensures answer { Lists (S.Store.bytes store.now) checked.now.header.end room.old.counts.changes.items room.old.fragments room.old.lists named room.new.lists room.new.fragments room.old.queue room.new.queue result }
     ensures counts { room.new.counts ≡ room.old.counts }
 {
     if room.lists.len() >= MOST_LISTS {
+        let why = Kind::List.past_last(checked.header.end, named.span);
         return Err(InList {
-            fault: too_many(end, named),
+            fault: why.at(named.field).into(),
             list: 0,
         });
     }
-    let begun = begin_list(store, end, room, named)?;
-    read_rest(store, end, room, begun)
+    let begun = begin_list(store, checked, room, named)?;
+    read_rest(store, checked, room, begun)
 }
 
 // Takes in and checks the first fragment of the list that a reference names.
-fn begin_list<S: Store>(store: &S, end: u64, room: &mut Room, named: Named) -> Result<Begun, InList>
-    requires { end ≤ 2 ^ 40 }
-    ensures answer { Checked (begin_checks (S.Store.bytes store.now) end room.old.fragments.items room.old.lists.items room.old.counts.changes.items named) result }
-    ensures begun { IfOk result (λ x. Begins (S.Store.bytes store.now) end room.old.counts.changes.items named (vec_len room.old.fragments) x) }
-    ensures fragments { OnOk result (room.new.fragments.items ≡ room.old.fragments.items ++ (named.span ∷ [])) }
+// It reads two tables of the room and changes a third, so it takes the room whole and promises what stays.
+fn begin_list<S: Store>(
+    store: &S,
+    checked: &CheckedHeader,
+    room: &mut Room,
+    named: Named,
+) -> Result<Begun, InList>
+    ensures answer { Checked (begin_checks (S.Store.bytes store.now) checked.now.header.end room.old.fragments room.old.lists room.old.counts.changes.items named) result }
+    ensures begun { IfOk result (λ x. Begins (S.Store.bytes store.now) room.old.counts.changes.items named (length room.old.fragments) x) }
+    ensures fragments { OnOk result (room.new.fragments ≡ room.old.fragments ++ (named.span ∷ [])) }
     ensures counts { room.new.counts ≡ room.old.counts }
     ensures lists { room.new.lists ≡ room.old.lists }
     ensures queue { room.new.queue ≡ room.old.queue }
 {
     let first = room.fragments.len();
-    take_in(room, end, named.span, named.field, 0)?;
-    let list = owner(store, named.span);
-    check_fragment(store, named.span, list, 0, 0)?;
-    let count = check_first(room, list, named.span)?;
+    let fragment = take_in(&mut room.fragments, checked, named, 0)?;
+    let list = fragment.owner(store);
+    check_fragment(store, fragment, list, 0, 0)?;
+    let count = check_first(room, list, fragment.span)?;
     Ok(Begun {
         list,
         count,
         first,
-        fragment: named.span,
+        fragment,
     })
 }
 
 // Reads a list's nodes, fragment by fragment, and adds its row.
-fn read_rest<S: Store>(store: &S, end: u64, room: &mut Room, begun: Begun) -> Result<(), InList>
-    requires short { end ≤ 2 ^ 40 }
-    requires least { 36 ≤ begun.fragment.size }
-    requires inside { begun.fragment.start + begun.fragment.size ≤ end }
-    requires counted { 1 ≤ begun.count }
-    requires few { vec_len room.old.fragments ≤ 2048 }
-    requires room { vec_len room.old.lists < 1024 }
-    requires held { room.old.fragments.items ≡ take begun.first room.old.fragments.items ++ (begun.fragment ∷ []) }
-    ensures answer { Rests (S.Store.bytes store.now) end (take begun.first room.old.fragments.items) begun room.old.lists.items room.new.lists.items room.new.fragments.items room.old.queue.items room.new.queue.items result }
+#[tactic(auto, using(crate::proofs::ListWalks::listing_none, crate::proofs::ListWalks::listing_few))]
+fn read_rest<S: Store>(
+    store: &S,
+    checked: &CheckedHeader,
+    room: &mut Room,
+    begun: Begun,
+) -> Result<(), InList>
+    requires few { length room.old.fragments ≤ 2048 }
+    requires room { length room.old.lists < 1024 }
+    requires held { room.old.fragments ≡ take begun.first room.old.fragments ++ (begun.fragment.span ∷ []) }
+    ensures answer { Rests (S.Store.bytes store.now) checked.now.header.end (take begun.first room.old.fragments) begun room.old.lists room.new.lists room.new.fragments room.old.queue room.new.queue result }
     ensures counts { room.new.counts ≡ room.old.counts }
 {
     let mut fragment = begun.fragment;
     let mut nodes = 0;
     for sequence in 1..=MOST_FRAGMENTS as u32 {
-        let part = read_nodes(store, begun.list, fragment, begun.count - nodes, room)?;
+        let part = read_nodes(
+            store,
+            begun.list,
+            fragment,
+            begun.count - nodes,
+            &mut room.queue,
+        )?;
         nodes += part.nodes;
         if nodes == begun.count {
-            room.add_list(Row {
+            // there is room, as was tested before the list was begun
+            let _ = room.lists.push(Row {
                 id: begun.list,
                 first: begun.first,
                 fragments: sequence as usize,
@@ -175,7 +173,14 @@ fn read_rest<S: Store>(store: &S, end: u64, room: &mut Room, begun: Begun) -> Re
             });
             return Ok(());
         }
-        fragment = next_fragment(store, end, room, fragment, begun.list, sequence)?;
+        fragment = next_fragment(
+            store,
+            checked,
+            &mut room.fragments,
+            fragment,
+            begun.list,
+            sequence,
+        )?;
     }
     Ok(())
 }
@@ -183,82 +188,57 @@ fn read_rest<S: Store>(store: &S, end: u64, room: &mut Room, begun: Begun) -> Re
 // Takes in and checks the fragment that follows another of a list.
 fn next_fragment<S: Store>(
     store: &S,
-    end: u64,
-    room: &mut Room,
-    fragment: Span,
+    checked: &CheckedHeader,
+    fragments: &mut Fragments,
+    fragment: ListFragment,
     list: u32,
     sequence: u32,
-) -> Result<Span, InList>
-    requires short { end ≤ 2 ^ 40 }
-    requires least { 36 ≤ fragment.size }
-    requires inside { fragment.start + fragment.size ≤ end }
-    ensures answer { Checked (next_checks (S.Store.bytes store.now) end room.old.fragments.items list sequence fragment) result }
-    ensures next { IfOk result (λ g. (g ≡ span_at (S.Store.bytes store.now) (nodes_to fragment)) × (36 ≤ g.size) × (g.start + g.size ≤ end) × (vec_len room.old.fragments < 2048) × (room.new.fragments.items ≡ room.old.fragments.items ++ (g ∷ []))) }
-    ensures counts { room.new.counts ≡ room.old.counts }
-    ensures lists { room.new.lists ≡ room.old.lists }
-    ensures queue { room.new.queue ≡ room.old.queue }
+) -> Result<ListFragment, InList>
+    ensures answer { Checked (next_checks (S.Store.bytes store.now) checked.now.header.end fragments.old list sequence fragment.span) result }
+    ensures next { IfOk result (λ g. (g.span ≡ span_at (S.Store.bytes store.now) (nodes_to fragment.span)) × (length fragments.old < 2048) × (fragments.new ≡ fragments.old ++ (g.span ∷ []))) }
 {
-    let field = nodes_to(fragment);
-    let next = span_at(store, field);
-    take_in(room, end, next, field, list)?;
+    let field = fragment.nodes_to();
+    let span = span_at(store, field);
+    let next = take_in(fragments, checked, Named { field, span }, list)?;
     check_fragment(store, next, list, sequence, list)?;
     Ok(next)
 }
 
-// A list that is named when there are as many as there may be.
-fn too_many(end: u64, named: Named) -> ListFault
-    ensures { list_fault result 0 ≡ (if outside 36 end named.span then fault 5 3 named.field 0 else fault 13 3 named.field 0) }
+// Takes in the fragment that a reference names.
+fn take_in(
+    fragments: &mut Fragments,
+    checked: &CheckedHeader,
+    named: Named,
+    list: u32,
+) -> Result<ListFragment, InList>
+    ensures answer { Checked (place_checks checked.now.header.end fragments.old named.field named.span list) result }
+    ensures fragment { IfOk result (λ f. f.span ≡ named.span) }
+    ensures fragments { OnOk result (fragments.new ≡ fragments.old ++ (named.span ∷ [])) }
+    ensures few { OnOk result (length fragments.old < 2048) }
 {
-    if is_outside(Kind::List.least(), end, named.span) {
-        ListFault::Outside { place: named.field }
-    } else {
-        ListFault::Full { place: named.field }
+    match fragments.admit(Kind::List, checked.header.end, named.span) {
+        Ok(()) => Ok(ListFragment { span: named.span }),
+        Err(why) => Err(InList {
+            fault: why.at(named.field).into(),
+            list,
+        }),
     }
-}
-
-// Takes a fragment in whose reference stands at `field`.
-fn take_in(room: &mut Room, end: u64, fragment: Span, field: u64, list: u32) -> Result<(), InList>
-    ensures answer { Checked (place_checks end room.old.fragments.items field fragment list) result }
-    ensures fragments { OnOk result (room.new.fragments.items ≡ room.old.fragments.items ++ (fragment ∷ [])) }
-    ensures within { OnOk result ((36 ≤ fragment.size) × (fragment.start + fragment.size ≤ end)) }
-    ensures few { OnOk result (vec_len room.old.fragments < 2048) }
-    ensures counts { room.new.counts ≡ room.old.counts }
-    ensures lists { room.new.lists ≡ room.old.lists }
-    ensures queue { room.new.queue ≡ room.old.queue }
-{
-    let fault = match room.admit(Kind::List, end, fragment) {
-        Ok(()) => return Ok(()),
-        Err(Misplaced::Outside) => ListFault::Outside { place: field },
-        Err(Misplaced::Full) => ListFault::Full { place: field },
-        Err(Misplaced::Overlap) => ListFault::Overlap { place: field },
-    };
-    Err(InList { fault, list })
-}
-
-// The list that a fragment belongs to.
-fn owner<S: Store>(store: &S, fragment: Span) -> u32
-    requires { fragment.start + fragment.size ≤ 2 ^ 40 }
-    ensures { result ≡ owner (S.Store.bytes store.now) fragment }
-{
-    u32_at(store, fragment.start + 8)
 }
 
 // Checks a fragment's marks, its list's ID and its number in the list; the list is told once the first fragment has passed.
 fn check_fragment<S: Store>(
     store: &S,
-    fragment: Span,
+    fragment: ListFragment,
     list: u32,
     sequence: u32,
     told: u32,
 ) -> Result<(), InList>
-    requires inside { fragment.start + fragment.size ≤ 2 ^ 40 }
-    requires least { 36 ≤ fragment.size }
-    ensures { Checked (label_checks (S.Store.bytes store.now) fragment list sequence told) result }
+    ensures { Checked (label_checks (S.Store.bytes store.now) fragment.span list sequence told) result }
 {
     if is_mislabelled(store, fragment, list, sequence) {
         return Err(InList {
             fault: ListFault::Fragment {
-                place: fragment.start,
+                place: fragment.span.start,
             },
             list: told,
         });
@@ -267,22 +247,20 @@ fn check_fragment<S: Store>(
 }
 
 // Whether a mark, the number in the list or the list's ID is wrong.
-fn is_mislabelled<S: Store>(store: &S, fragment: Span, list: u32, sequence: u32) -> bool
-    requires inside { fragment.start + fragment.size ≤ 2 ^ 40 }
-    requires least { 36 ≤ fragment.size }
-    ensures { result ≡ mislabelled (S.Store.bytes store.now) fragment list sequence }
+fn is_mislabelled<S: Store>(store: &S, fragment: ListFragment, list: u32, sequence: u32) -> bool
+    ensures { result ≡ mislabelled (S.Store.bytes store.now) fragment.span list sequence }
 {
-    let start = fragment.start;
-    u64_at(store, start) != FIRST_MARK
-        || u64_at(store, start + fragment.size - 8) != LAST_MARK
-        || u32_at(store, start + 12) != sequence
-        || owner(store, fragment) != list
+    let Span { start, size } = fragment.span;
+    number_at::<u64, _>(store, start) != FIRST_MARK
+        || number_at::<u64, _>(store, start + size - 8) != LAST_MARK
+        || number_at::<u32, _>(store, start + 12) != sequence
+        || fragment.owner(store) != list
         || list < LEAST_ID
 }
 
 // At a list's first fragment: no list before it has its ID, and the log counts it. Answers its count.
 fn check_first(room: &Room, list: u32, fragment: Span) -> Result<u32, InList>
-    ensures answer { Checked (first_checks room.now.lists.items (noted room.now.counts.changes.items list) list fragment) result }
+    ensures answer { Checked (first_checks room.now.lists (noted room.now.counts.changes.items list) list fragment) result }
     ensures count { IfOk result (λ n. (1 ≤ n) × (n ≡ noted room.now.counts.changes.items list)) }
 {
     let place = fragment.start;
@@ -303,23 +281,20 @@ fn check_first(room: &Room, list: u32, fragment: Span) -> Result<u32, InList>
 }
 
 // Reads a fragment's nodes, at most `left`, and names the lists that they refer to.
+// The walk that checks their data answers otherwise at each step; what the two share stands in `node_walk`.
+#[tactic(auto, using(crate::proofs::Walkings::walking_none, crate::proofs::Walkings::walked_over, crate::proofs::Walkings::walked_end))]
 fn read_nodes<S: Store>(
     store: &S,
     list: u32,
-    fragment: Span,
+    fragment: ListFragment,
     left: u32,
-    room: &mut Room,
+    queue: &mut Queue,
 ) -> Result<Part, InList>
-    requires inside { fragment.start + fragment.size ≤ 2 ^ 40 }
-    requires least { 36 ≤ fragment.size }
-    ensures answer { Walks (S.Store.bytes store.now) left list fragment room.old.queue.items room.new.queue.items result }
+    ensures answer { Walks (S.Store.bytes store.now) left list fragment.span queue.old queue.new result }
     ensures few { IfOk result (λ p. p.nodes ≤ left) }
-    ensures counts { room.new.counts ≡ room.old.counts }
-    ensures fragments { room.new.fragments ≡ room.old.fragments }
-    ensures lists { room.new.lists ≡ room.old.lists }
 {
-    let stop = nodes_to(fragment);
-    let mut place = nodes_from(fragment);
+    let stop = fragment.nodes_to();
+    let mut place = fragment.nodes_from();
     for nodes in 0..left {
         let Some(node) = node_before(store, place, stop) else {
             return Ok(Part { nodes, free: place });
@@ -330,7 +305,7 @@ fn read_nodes<S: Store>(
                 list,
             });
         }
-        name_list(room, place, node);
+        name_list(queue, place, node);
         place += node.head.size as u64;
     }
     Ok(Part {
@@ -340,21 +315,11 @@ fn read_nodes<S: Store>(
 }
 
 // Names the list that the node at `place` refers to, if it does.
-fn name_list(room: &mut Room, place: u64, node: NodeHead)
+fn name_list(queue: &mut Queue, place: u64, node: NodeHead)
     requires { place ≤ 2 ^ 40 }
-    ensures queue { Names room.old.queue.items (name_of place node.head.base node.reference) room.new.queue.items }
-    ensures counts { room.new.counts ≡ room.old.counts }
-    ensures fragments { room.new.fragments ≡ room.old.fragments }
-    ensures lists { room.new.lists ≡ room.old.lists }
+    ensures { Names queue.old (name_of place node.head.base node.reference) queue.new }
 {
-    if refers_to_list(node) {
-        room.name(place + 4, node.reference);
+    if node.refers_to(Target::List) {
+        queue.name(place + 4, node.reference);
     }
-}
-
-// Whether a node has a present reference to a list.
-fn refers_to_list(node: NodeHead) -> bool
-    ensures { result ≡ (node.head.base == 2 && present node.reference) }
-{
-    node.head.base == 2 && !is_absent(node.reference)
 }

@@ -12,8 +12,8 @@ use Rattle.model.specs.Section.{Log, flat, latest}
 use Rattle.model.specs.OpenedLog.{outside, overlaps, Reading, reading, LogPart, finished, unfinished, log_entries, log_goes, log_from}
 use Rattle.log_pass.specs.Logs.{Met, wrong, ends, goes, met, counts_past, counts_in, counts_after, counts_met, whole_log, all_counts}
 use Rattle.log_pass.proofs.OneEntry.{flat_push}
-use Rattle.log_pass.proofs.Entries.{log_past, log_entries_more, counts_in_more}
-use Rattle.log_pass.proofs.Fragments.{from_outside, from_overlap, at_log, at_counts}
+use Rattle.log_pass.proofs.Entries.{log_past, entries_more}
+use Rattle.log_pass.proofs.Fragments.{at_log, at_counts}
 
 -- how many entries were read
 abbrev total : Reading → ℕ
@@ -61,9 +61,9 @@ unfolding log_entries counts_in
 counts_in_total zero b count f i k part e = let q : unfinished k ≡ part = cc in omega (arith, ap part_total q)
 counts_in_total (suc n) b count f i k part e =
     let p = entry_place f i in
-    ap (λ xs. length xs + total k) (counts_in_more n b count f i k)
+    ap (λ xs. length xs + total k) (entries_more (suc n) n b count f i k refl).1
     ∙ entries_step n b count f (i + 1) k part (λ j d. counts_in_total n b count f (i + 1) j part d) (met count p (entry_at b p) k) (met_adds_up count p (entry_at b p) k)
-    (sym (log_entries_more n b count f i k) ∙ e)
+    (sym (entries_more (suc n) n b count f i k refl).0 ∙ e)
 
 module _ (m : ℕ) (b : List ℕ) (h : Header) (fs : List Span) (field : ℕ) (f : Span) (k : Reading) (log : Log)
     (ih : (gs : List Span) (p : ℕ) (g : Span) (j : Reading) → log_from m b h gs p g j ≡ done log → length (counts_met m b h gs p g j) + total j ≡ length (flat log.transactions))
@@ -83,6 +83,17 @@ module _ (m : ℕ) (b : List ℕ) (h : Header) (fs : List Span) (field : ℕ) (f
       let c = at_counts m b h fs field f k o v (done (unfinished j)) e in
       let a = counts_in_total (entries_in f.size) b h.count f 0 k (unfinished j) e in
       omega (arith, ap length c, length-append (counts_in (entries_in f.size) b h.count f 0 k) (counts_after (counts_met m b h) b fs f (done (unfinished j))), a, ih _ _ _ j d)
+
+-- a fragment whose place is wrong
+from_outside : (m : ℕ) (b : List ℕ) (h : Header) (fs : List Span) (field : ℕ) (f : Span) (k : Reading) → outside 12 h.end f ≡ true
+    → log_from (suc m) b h fs field f k ≡ refused (fault 5 2 field 0)
+unfolding log_from
+from_outside m b h fs field f k o = rw o
+
+from_overlap : (m : ℕ) (b : List ℕ) (h : Header) (fs : List Span) (field : ℕ) (f : Span) (k : Reading) → outside 12 h.end f ≡ false → overlaps f fs ≡ true
+    → log_from (suc m) b h fs field f k ≡ refused (fault 11 2 field 0)
+unfolding log_from
+from_overlap m b h fs field f k o v = rw (o, v)
 
 counts_met_total : (m : ℕ) (b : List ℕ) (h : Header) (fs : List Span) (field : ℕ) (f : Span) (k : Reading) (log : Log)
     → log_from m b h fs field f k ≡ done log → length (counts_met m b h fs field f k) + total k ≡ length (flat log.transactions)

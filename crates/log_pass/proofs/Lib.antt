@@ -1,4 +1,5 @@
-pub mod Entries
+pub mod Refusing
 pub mod OneEntry
+pub mod Entries
 pub mod Fragments
 pub mod Counted

@@ -1,24 +1,24 @@
 -- One entry of the log: what it does to a log as far as it was read, and how that is then held.
-use Rattle.std.proofs.Common.{◌≡◌, ℕ, suc, ◌+◌, ◌*◌, ◌/◌, ◌%◌, ◌^◌, ◌<◌, ◌≤◌, min, Bool, true, false, cond, eqb, leb, List, [], ◌∷◌, ◌++◌, length, get_or, Ok, Result, sym, refl, ap, ◌∙◌, subst, ap₂, append_assoc, append-nil, add-zero, arith}
+use Rattle.std.proofs.Common.{◌≡◌, ℕ, suc, ◌+◌, ◌*◌, ◌/◌, ◌%◌, ◌^◌, ◌<◌, ◌≤◌, min, Bool, true, false, cond, eqb, leb, List, [], ◌∷◌, ◌++◌, length, get_or, take, drop, drop-cons, add-one, length-drop, zero, Ok, vec_items, vec_len, inl, inr, sym, refl, ap, ◌∙◌, ap₂, append_assoc, append-nil, add-zero, arith}
 use lib.Bits.{bit_xor}
-use Rattle.std.proofs.lemmas.List.{length_push}
-use Rattle.std.proofs.lemmas.Bool.{le-leb, lt-leb, eq-eqb, ne_eqb, eqb-false}
+use Rattle.std.proofs.lemmas.List.{length_push, take_all, take-append-drop}
+use Rattle.std.proofs.lemmas.Bool.{cases_Bool, le-leb, lt-leb, eq-eqb, ne_eqb, eqb-false}
 use Rattle.model.specs.declared.types.Entry.{Entry}
 use Rattle.model.specs.Bytes.{le, digits}
 use Rattle.model.specs.Crc.{run, crc_of, crc_32}
-use Rattle.model.specs.Faults.{fault}
 use Rattle.model.specs.LogFragments.{entry, entry_at, entry_bytes}
 use Rattle.model.specs.Section.{flat, latest}
 use Rattle.model.specs.OpenedLog.{Reading, reading}
-use Rattle.counts.specs.declared.changes.Change.{Change}
-use Rattle.counts.specs.Noted.{change, entries, noted}
+use Rattle.counts.specs.declared.table.Counts.{Counts}
+use Rattle.counts.specs.Noted.{change, entries, noted, numbered}
 use Rattle.counts.proofs.Numbered.{entries_numbered, numbered_note, numbered_finish}
 use Rattle.crc.proofs.Rows.{run_end, run_append}
 use Rattle.format.specs.Windows.{Window}
 use Rattle.format.proofs.Fetched.{le_window}
-use Rattle.refusals.specs.declared.faults.LogFault.{LogFault}
-use Rattle.log_pass.specs.Logs.{wrong, ends, goes, met}
-use Rattle.log_pass.specs.LogSteps.{Holds, Takes}
+use Rattle.crc.specs.declared.Crc.{Crc}
+use Rattle.refusals.specs.declared.faults.LogFault.TheVariants as log
+use Rattle.log_pass.specs.Logs.{ends, goes, met, Told}
+use Rattle.log_pass.specs.LogSteps.{alone, places_at, Holds, Takes}
 
 pub flat_push : (ts : List (List Entry)) (es : List Entry) → flat (ts ++ (es ∷ [])) ≡ flat ts ++ es
 flat_push [] es = append-nil es
@@ -32,88 +32,93 @@ bytes_push (x ∷ es) e =
     ∙ ap (λ xs. digits 4 x.source ++ xs) (sym (append_assoc (digits 4 x.number) (entry_bytes es) (entry_bytes (e ∷ []))))
     ∙ sym (append_assoc (digits 4 x.source) (digits 4 x.number ++ entry_bytes es) (entry_bytes (e ∷ [])))
 
-module _ (count p : ℕ) (cs : List Change) (n register : ℕ) (k : Reading) (h : Holds count cs n register k) where
-  counted : (id : ℕ) → noted cs id ≡ latest id 0 (flat k.transactions ++ k.pending)
+module _ {count : ℕ} {t : Counts} {c : Crc} {k : Reading} (h : Holds count t c k) where
+  counted : (id : ℕ) → noted (vec_items t.changes) id ≡ latest id 0 (flat k.transactions ++ k.pending)
   counted id =
       ap (latest id 0) (ap entries h.noted ∙ entries_numbered (k.transactions ++ (k.pending ∷ [])) 1 ∙ flat_push k.transactions k.pending)
 
-  pub met_backward : (e : Entry) → (e.source ≡ 1 → ⊥) → e.number ≤ noted cs e.source → met count p e k ≡ wrong (fault 7 2 p 0)
-  unfolding met
-  met_backward e s l =
-      let a : eqb e.source 1 ≡ false = ne_eqb e.source 1 s in
-      let b : leb e.number (latest e.source 0 (flat k.transactions ++ k.pending)) ≡ true = le-leb _ _ (omega (arith, counted e.source)) in
-      rw (a, b)
-
-  pub met_count : (e : Entry) → (e.source ≡ 1 → ⊥) → noted cs e.source < e.number
+  met_count : (p : ℕ) (e : Entry) → (e.source ≡ 1 → ⊥) → noted (vec_items t.changes) e.source < e.number
       → met count p e k ≡ goes (p ∷ []) (reading k.transactions (k.pending ++ (e ∷ [])))
   unfolding met
-  met_count e s l =
+  met_count p e s l =
       let a : eqb e.source 1 ≡ false = ne_eqb e.source 1 s in
       let b : leb e.number (latest e.source 0 (flat k.transactions ++ k.pending)) ≡ false = lt-leb _ _ (omega (arith, counted e.source)) in
       rw (a, b)
 
-  pub holds_count : (e : Entry) (bytes : List ℕ) → bytes ≡ entry_bytes (e ∷ []) → (ds : List Change) (m register' : ℕ)
-      → ds ≡ cs ++ (change (n + 1) e.source e.number ∷ []) → m ≡ n → register' ≡ run crc_32 register bytes
-      → Holds count ds m register' (reading k.transactions (k.pending ++ (e ∷ [])))
-  holds_count e bytes b ds m register' d q r =
-      let z : n + 1 ≡ 1 + length k.transactions = omega (arith, h.ended) in
-      record {
-        noted = d ∙ ap₂ (λ xs t. xs ++ (change t e.source e.number ∷ [])) h.noted z ∙ numbered_note k.transactions 1 k.pending e.source e.number;
-        ended = q ∙ h.ended;
-        under = h.under;
-        summed = r ∙ ap₂ (run crc_32) h.summed b ∙ sym (run_append crc_32 crc_32.first (entry_bytes k.pending) (entry_bytes (e ∷ []))) ∙ ap (run crc_32 crc_32.first) (sym (bytes_push k.pending e));
-      }
+  pub takes_backward : (p left : ℕ) (e : Entry) → (e.source ≡ 1 → ⊥) → e.number ≤ noted (vec_items t.changes) e.source
+      → Told (alone (met count p e k)) (places_at (met count p e k)) left (log.Backward p)
+  unfolding met
+  takes_backward p left e s l =
+      let a : eqb e.source 1 ≡ false = ne_eqb e.source 1 s in
+      let b : leb e.number (latest e.source 0 (flat k.transactions ++ k.pending)) ≡ true = le-leb _ _ (omega (arith, counted e.source)) in
+      rw (a, b) (refl, omega arith)
 
-  crc_held : bit_xor register crc_32.last ≡ crc_of crc_32 (entry_bytes k.pending)
+  pub takes_room : (p left : ℕ) (e : Entry) → (e.source ≡ 1 → ⊥) → noted (vec_items t.changes) e.source < e.number → left ≡ 0
+      → (left < length (places_at (met count p e k))) × (p ≡ get_or (places_at (met count p e k)) left 0)
+  takes_room p left e s l z = rw (met_count p e s l, z) (omega arith, refl)
+
+  pub takes_count : {new : Counts} {is : Crc} (p : ℕ) (e : Entry) (bytes : List ℕ) → (e.source ≡ 1 → ⊥) → noted (vec_items t.changes) e.source < e.number
+      → bytes ≡ entry_bytes (e ∷ []) → vec_items new.changes ≡ vec_items t.changes ++ (change (t.finished + 1) e.source e.number ∷ [])
+      → vec_len new.changes ≡ vec_len t.changes + 1 → new.finished ≡ t.finished → is.register ≡ run crc_32 c.register bytes
+      → Takes (met count p e k) count t new is (Ok false)
+  takes_count p e bytes s l b d n q r =
+      let z : t.finished + 1 ≡ 1 + length k.transactions = omega (arith, h.ended) in (
+        reading k.transactions (k.pending ++ (e ∷ [])),
+        p ∷ [],
+        met_count p e s l,
+        record {
+          noted = d ∙ ap₂ (λ xs t. xs ++ (change t e.source e.number ∷ [])) h.noted z ∙ numbered_note k.transactions 1 k.pending e.source e.number;
+          ended = q ∙ h.ended;
+          under = h.under;
+          summed = r ∙ ap₂ (run crc_32) h.summed b ∙ sym (run_append crc_32 crc_32.first (entry_bytes k.pending) (entry_bytes (e ∷ []))) ∙ ap (run crc_32 crc_32.first) (sym (bytes_push k.pending e));
+        },
+        n,
+      )
+
+  crc_held : bit_xor c.register crc_32.last ≡ crc_of crc_32 (entry_bytes k.pending)
   unfolding crc_of
   crc_held = ap (λ x. bit_xor x crc_32.last) h.summed
 
-  pub met_sum : (sum c : ℕ) → c ≡ bit_xor register crc_32.last → (c ≡ sum → ⊥) → met count p (entry 1 sum) k ≡ wrong (fault 6 2 p 0)
+  pub takes_sum : (p left sum d : ℕ) → d ≡ bit_xor c.register crc_32.last → (d ≡ sum → ⊥)
+      → Told (alone (met count p (entry 1 sum) k)) (places_at (met count p (entry 1 sum) k)) left (log.Sum p)
   unfolding met
-  met_sum sum c q d =
-      let a : eqb sum (crc_of crc_32 (entry_bytes k.pending)) ≡ false = ne_eqb _ _ (λ e. d (q ∙ crc_held ∙ sym e)) in
-      rw a
+  takes_sum p left sum d q n =
+      let a : eqb sum (crc_of crc_32 (entry_bytes k.pending)) ≡ false = ne_eqb _ _ (λ e. n (q ∙ crc_held ∙ sym e)) in
+      rw a (refl, omega arith)
 
-  met_sentinel : (sum c : ℕ) → c ≡ bit_xor register crc_32.last → c ≡ sum
+  met_sentinel : (p sum d : ℕ) → d ≡ bit_xor c.register crc_32.last → d ≡ sum
       → met count p (entry 1 sum) k ≡ cond (eqb (length (k.transactions ++ (k.pending ∷ []))) count) (ends (k.transactions ++ (k.pending ∷ []))) (goes [] (reading (k.transactions ++ (k.pending ∷ [])) []))
   unfolding met
-  met_sentinel sum c q d =
-      let a : eqb sum (crc_of crc_32 (entry_bytes k.pending)) ≡ true = eq-eqb _ _ (sym d ∙ q ∙ crc_held) in
+  met_sentinel p sum d q e =
+      let a : eqb sum (crc_of crc_32 (entry_bytes k.pending)) ≡ true = eq-eqb _ _ (sym e ∙ q ∙ crc_held) in
       rw a
 
-  pub takes_sentinel : (sum c : ℕ) → c ≡ bit_xor register crc_32.last → c ≡ sum → (t : Bool) (room len : ℕ) (ds : List Change) (m register' after : ℕ)
-      → count < 2 ^ 32 → ds ≡ cs → m ≡ min (n + 1) (2 ^ 63) → register' ≡ crc_32.first → after ≡ len → t ≡ eqb m count
-      → Takes (met count p (entry 1 sum) k) count p room len ds m register' after (Ok t)
+  pub takes_sentinel : (new : Counts) (is : Crc) (p sum d : ℕ) → d ≡ bit_xor c.register crc_32.last → d ≡ sum → (ended : Bool)
+      → count < 2 ^ 32 → new.changes ≡ t.changes → new.finished ≡ min (t.finished + 1) (2 ^ 63) → is.register ≡ crc_32.first → ended ≡ eqb new.finished count
+      → Takes (met count p (entry 1 sum) k) count t new is (Ok ended)
   unfolding entry_bytes
-  takes_sentinel sum c q d true room len ds m register' after b s z r a t =
+  takes_sentinel new is p sum d q v ended b s z r a =
       let ts = k.transactions ++ (k.pending ∷ []) in
-      let l : m ≡ length ts = omega (arith, h.ended, h.under, length_push k.transactions k.pending) in
-      let e : eqb (length ts) count ≡ true = ap (λ x. eqb x count) (sym l) ∙ sym t in
-      (ts, met_sentinel sum c q d ∙ rw e, s ∙ h.noted, l, a)
-  takes_sentinel sum c q d false room len ds m register' after b s z r a t =
-      let ts = k.transactions ++ (k.pending ∷ []) in
-      let l : m ≡ length ts = omega (arith, h.ended, h.under, length_push k.transactions k.pending) in
-      let e : eqb (length ts) count ≡ false = ap (λ x. eqb x count) (sym l) ∙ sym t in
-      let u : length ts < count = omega (arith, h.under, length_push k.transactions k.pending, eqb-false (length ts) count e) in (
-        reading ts [],
-        [],
-        met_sentinel sum c q d ∙ rw e,
-        record {
-          noted = s ∙ h.noted ∙ sym (numbered_finish ts 1);
-          ended = l;
-          under = u;
-          summed = r ∙ sym (run_end crc_32 crc_32.first);
-        },
-        a ∙ omega arith,
-      )
-
--- an entry of source 1 is a sentinel
-pub takes_as : (count p room len : ℕ) (e : Entry) (k : Reading) (cs : List Change) (n register after : ℕ) (r : Result Bool LogFault) → e.source ≡ 1
-    → Takes (met count p (entry 1 e.number) k) count p room len cs n register after r
-    → Takes (met count p e k) count p room len cs n register after r
-takes_as count p room len e k cs n register after r q t =
-    let P : Entry → Type 0 = λ x. Takes (met count p x k) count p room len cs n register after r in
-    subst P (ap (λ s. entry s e.number) (sym q)) t
+      let l : new.finished ≡ length ts = omega (arith, h.ended, h.under, length_push k.transactions k.pending) in
+      let m = met_sentinel p sum d q v in
+      let noted : vec_items new.changes ≡ numbered 1 ts = ap vec_items s ∙ h.noted in
+      elim (cases_Bool (eqb (length ts) count)) [
+        | inl e ↦ let t' : ended ≡ true = a ∙ ap (λ x. eqb x count) l ∙ e in rw t' (ts, m ∙ rw e, noted, l, ap vec_len s)
+        | inr e ↦
+            let t' : ended ≡ false = a ∙ ap (λ x. eqb x count) l ∙ e in
+            rw t' (
+              reading ts [],
+              [],
+              m ∙ rw e,
+              record {
+                noted = noted ∙ sym (numbered_finish ts 1);
+                ended = l;
+                under = omega (arith, h.under, length_push k.transactions k.pending, eqb-false (length ts) count e);
+                summed = r ∙ sym (run_end crc_32 crc_32.first);
+              },
+              ap vec_len s ∙ omega arith,
+            )
+      ]
 
 -- the eight bytes of an entry, and its two numbers
 digits_more : (n a m : ℕ) → a < 256 → digits (suc n) (a + 256 * m) ≡ a ∷ digits n m
@@ -123,24 +128,18 @@ digits_more n a m h =
     let f : (a + 256 * m) / 256 ≡ m = omega arith in
     ap₂ (λ x y. x ∷ digits n y) e f
 
-four : (a b c d : ℕ) → a < 256 → b < 256 → c < 256 → d < 256 → digits 4 (a + 256 * (b + 256 * (c + 256 * (d + 256 * 0)))) ≡ a ∷ b ∷ c ∷ d ∷ []
-unfolding digits
-four a b c d p q r s =
-    digits_more 3 a _ p ∙ ap (λ xs. a ∷ xs) (digits_more 2 b _ q ∙ ap (λ xs. b ∷ xs) (digits_more 1 c _ r ∙ ap (λ xs. c ∷ xs) (digits_more 0 d 0 s)))
+digits_le : (n p : ℕ) (xs : List ℕ) → p + n ≤ length xs → ((i : ℕ) → i < length xs → get_or xs i 0 < 256) → digits n (le n xs p) ≡ take n (drop p xs)
+unfolding digits le
+digits_le zero p xs l b = refl
+digits_le (suc n) p xs l b =
+    digits_more n (get_or xs p 0) (le n xs (p + 1)) (b p (omega arith)) ∙ ap (λ ys. get_or xs p 0 ∷ ys) (digits_le n (p + 1) xs (omega arith) b)
+    ∙ rw (drop-cons xs p 0 (omega arith), add-one)
 
-eight : (xs : List ℕ) → length xs ≡ 8 → ((i : ℕ) → i < 8 → get_or xs i 0 < 256) → xs ≡ entry_bytes (entry (le 4 xs 0) (le 4 xs 4) ∷ [])
-unfolding entry_bytes le
-eight [] e b = absurd (omega arith)
-eight (x ∷ []) e b = absurd (omega arith)
-eight (x ∷ y ∷ []) e b = absurd (omega arith)
-eight (x ∷ y ∷ z ∷ []) e b = absurd (omega arith)
-eight (x ∷ y ∷ z ∷ u ∷ []) e b = absurd (omega arith)
-eight (x ∷ y ∷ z ∷ u ∷ v ∷ []) e b = absurd (omega arith)
-eight (x ∷ y ∷ z ∷ u ∷ v ∷ w ∷ []) e b = absurd (omega arith)
-eight (x ∷ y ∷ z ∷ u ∷ v ∷ w ∷ s ∷ []) e b = absurd (omega arith)
-eight (x ∷ y ∷ z ∷ u ∷ v ∷ w ∷ s ∷ t ∷ []) e b =
-    sym (ap₂ (λ xs ys. xs ++ (ys ++ [])) (four x y z u (b 0 (omega arith)) (b 1 (omega arith)) (b 2 (omega arith)) (b 3 (omega arith))) (four v w s t (b 4 (omega arith)) (b 5 (omega arith)) (b 6 (omega arith)) (b 7 (omega arith))))
-eight (x ∷ y ∷ z ∷ u ∷ v ∷ w ∷ s ∷ t ∷ o ∷ xs) e b = absurd (omega arith)
+eight : (xs : List ℕ) → length xs ≡ 8 → ((i : ℕ) → i < length xs → get_or xs i 0 < 256) → xs ≡ entry_bytes (entry (le 4 xs 0) (le 4 xs 4) ∷ [])
+unfolding entry_bytes
+eight xs e b =
+    let d : take 4 (drop 4 xs) ≡ drop 4 xs = take_all 4 (drop 4 xs) (omega (arith, length-drop 4 xs)) in
+    rw (digits_le 4 0 xs (omega arith) b, digits_le 4 4 xs (omega arith) b, d, append-nil) (sym (take-append-drop 4 xs))
 
 module _ (row buffer : List ℕ) (p : ℕ) (w : Window row p buffer) (l : length buffer ≡ 8) (s n : ℕ) (is_s : s ≡ le 4 buffer 0) (is_n : n ≡ le 4 buffer 4) where
   pub entry_window : entry s n ≡ entry_at row p

@@ -15,11 +15,13 @@ ghost use Rattle.model.specs.Means.{Means};
 ghost use Rattle.model.specs.Examples.{small, small_section};
 
 // opening computes what the small file holds
+#[tactic(auto, using(crate::specs::Examples::small_opens))]
 pub fn small_opens()
     ensures { opened small ≡ done small_section }
 {}
 
 // and so the relation has it
+#[tactic(auto, using(crate::proofs::SmallMeant::small_means))]
 pub fn small_means()
     ensures { Means small small_section }
 {}

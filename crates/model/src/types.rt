@@ -8,6 +8,7 @@ pub struct Span {
 }
 
 /// An entry of the transaction log: 1 for a sentinel, which ends a transaction, else a list's ID; and a number.
+/// Both are numbers as in the file, since the definitions speak of them so.
 #[derive(Clone, Copy, PartialEq, Eq, Debug)]
 pub struct Entry {
     pub source: u32,
@@ -15,6 +16,7 @@ pub struct Entry {
 }
 
 /// What a refusal tells: its number, the layer that refuses, the place of what is wrong, and the ID of the list concerned, else 0.
+/// All are numbers, since a listing prints them so; the enums of the crates above convert to this.
 #[derive(Clone, Copy, PartialEq, Eq, Debug)]
 pub struct Fault {
     pub number: u32,

@@ -2,7 +2,7 @@
 use crate::types::Fault;
 use std::fmt;
 
-// The word of each refusal stands at its number.
+// The word of each refusal stands at its number: a refusal is told by that, and an enum of the words would say the same twice.
 const WORDS: [&str; 30] = [
     "none", "short", "strange", "newer", "bare", "outside", "sum", "backward", "fragment", "node",
     "unlisted", "overlap", "twice", "full", "busy", "shut", "foreign", "no list", "size", "kind",

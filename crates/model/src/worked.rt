@@ -215,6 +215,7 @@ const WORKED: [Worked; 28] = [
 ];
 
 /// The worked constants; the definitions give each its value.
+#[tactic(auto, unfolding(crate::specs::Examples::computed))]
 pub fn worked_constants() -> [Worked; 28]
     ensures { all_hold result ≡ true }
 {

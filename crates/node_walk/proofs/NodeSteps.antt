@@ -1,25 +1,13 @@
 -- One step of the walk over a fragment's nodes.
-use Rattle.std.proofs.Common.{◌≡◌, ℕ, suc, ◌+◌, ◌-◌, ◌<◌, ◌≤◌, true, false, ltb, List, [], ◌∷◌, ◌++◌, ap, ◌∙◌, arith}
+use Rattle.std.proofs.Common.{◌≡◌, ℕ, suc, ◌+◌, ◌-◌, ◌<◌, ◌≤◌, true, false, List, [], ◌∷◌, ◌++◌, ap, ◌∙◌, arith}
 use Rattle.std.proofs.lemmas.Bool.Decides.{nat_tests}
 use Rattle.model.specs.Bytes.{le}
 use Rattle.model.specs.Faults.{fault, done, refused}
-use Rattle.model.specs.Nodes.{Node, id_bits, size_bits, node_at, hands_over, bad_node}
+use Rattle.model.specs.Nodes.{Node, size_bits, node_at, hands_over, bad_node}
 use Rattle.model.specs.OpenedLists.{counted, uncounted, nodes_at}
 use Rattle.format.specs.declared.nodes.Head.{Head}
 use Rattle.format.specs.Heads.{head_of}
 use Rattle.node_walk.specs.Walks.{bad_head}
-
-pub over_short : (v stop p : ℕ) → true ≡ ltb stop (p + 4) → hands_over v stop p ≡ true
-unfolding hands_over
-over_short v stop p h = grind (arith, nat_tests)
-
-pub over_id : (v stop p : ℕ) → id_bits v ≡ 0xFF → hands_over v stop p ≡ true
-unfolding hands_over
-over_id v stop p h = grind (arith, nat_tests)
-
-pub over_not : (v stop p : ℕ) → false ≡ ltb stop (p + 4) → (id_bits v ≡ 0xFF → ⊥) → hands_over v stop p ≡ false
-unfolding hands_over
-over_not v stop p h d = grind (arith, nat_tests)
 
 pub bad_is : (h : Head) (v stop p : ℕ) → h ≡ head_of v → bad_head h stop p ≡ bad_node v stop p
 unfolding bad_node

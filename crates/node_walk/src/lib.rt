@@ -8,14 +8,17 @@ ghost use Rattle.model.specs.ListFragments.{nodes_from, nodes_to};
 ghost use Rattle.node_walk.specs.Walks.{Before, bad_head};
 
 use format::nodes::{Head, NodeHead, node_at};
-use format::references::width;
+use format::references::{ends_past, width};
 use model::types::Span;
 use store::base::Store;
+
+pub mod fragments;
 
 // The ID of a terminator.
 const TERMINATOR: u32 = 0xFF;
 
 /// The node at `place`, or nothing where the fragment's nodes end: under 4 bytes are left before `stop`, or a terminator stands there.
+#[tactic(auto, unfolding(model::specs::Nodes::hands_over))]
 pub fn node_before<S: Store>(store: &S, place: u64, stop: u64) -> Option<NodeHead>
     ensures { Before (S.Store.bytes store.now) place stop result }
 {
@@ -23,13 +26,10 @@ pub fn node_before<S: Store>(store: &S, place: u64, stop: u64) -> Option<NodeHea
         return None;
     }
     let node = node_at(store, place);
-    if node.head.id == TERMINATOR {
-        return None;
-    }
-    Some(node)
+    (node.head.id != TERMINATOR).then_some(node)
 }
 
-/// Whether no node begins at `place` with this head: ID 0, the top bit clear, BaseType over 2, a size too small for its parts, or an end past `stop`.
+/// Whether no node begins at `place` with this head, by its raw fields: ID 0, the top bit clear, BaseType over 2, a size too small for its parts, or an end past `stop`.
 pub fn is_bad(head: &Head, place: u64, stop: u64) -> bool
     ensures { result ≡ bad_head head.now stop place }
 {
@@ -37,14 +37,7 @@ pub fn is_bad(head: &Head, place: u64, stop: u64) -> bool
         || head.top == 0
         || head.base > 2
         || (head.size as usize) < 4 + reference_width(head)
-        || ends_past(stop, place, head.size)
-}
-
-// Whether so many bytes at `place` end past `stop`; no sum is made, since it may pass 2^64.
-fn ends_past(stop: u64, place: u64, size: u32) -> bool
-    ensures { result ≡ nat_lt stop (place + size) }
-{
-    size as u64 > stop || place > stop - size as u64
+        || ends_past(stop, place, head.size as u64)
 }
 
 // How many bytes the reference of a node with this head takes.
@@ -52,11 +45,7 @@ fn reference_width(head: &Head) -> usize
     ensures value { result ≡ (if refers head.now.base then start_width head.now.stp + size_width head.now.cb else 0) }
     ensures bound { result ≤ 16 }
 {
-    if head.base == 1 || head.base == 2 {
-        width(head.stp, head.cb)
-    } else {
-        0
-    }
+    head.target().map_or(0, |_| width(head.stp, head.cb))
 }
 
 /// Where a fragment's nodes begin.

@@ -1,29 +1,14 @@
--- Fragments with one more at the end, and what filters keep of a list's fragments up to a place and behind it.
-use Rattle.std.proofs.Common.{◌≡◌, ℕ, ◌≤◌, Bool, true, false, cond, not, eqb, leb, List, [], ◌∷◌, ◌++◌, is_some, Some, None, filter, Option, sym, refl, ap, ◌∙◌, inl, inr, arith}
-use Rattle.std.specs.List.{AllByRecursion}
+-- What filters keep of a list's fragments up to a place and behind it, and of one more there.
+use Rattle.std.proofs.Common.{◌≡◌, ℕ, Bool, true, false, cond, not, eqb, leb, List, [], ◌∷◌, ◌++◌, is_some, Some, None, filter, Option, sym, refl, ap, ◌∙◌, inl, inr, arith}
+use Rattle.std.specs.List.{All}
 use Rattle.std.proofs.lemmas.List.Elements.{filter-append}
-use Rattle.std.proofs.ByRecursion.{All-weaker}
 use Rattle.std.proofs.lemmas.List.{append-nil, append_cancel_left}
 use Rattle.std.proofs.lemmas.Bool.{cases_Bool}
 use Rattle.std.proofs.lemmas.Bool.Decides.{nat_tests}
+use Rattle.bounded.proofs.Filters.{filter_all, filter_none, All-passed}
 use Rattle.pieces.specs.declared.piece.Piece.{Piece}
-use Rattle.pieces.specs.Found.{of_list, some_of, last_piece, behind, put_in, freed}
+use Rattle.pieces.specs.Found.{of_list, some_of, last_piece, put_in, freed}
 use Rattle.pieces.specs.Placed.{up_to}
-
-pub kept_all : {X : Type 0} (p : X → Bool) (xs : List X) → AllByRecursion (λ x. p x ≡ true) xs → filter p xs ≡ xs
-kept_all p [] a = refl
-kept_all p (x ∷ xs) (e, a) = rw e (ap (λ ys. x ∷ ys) (kept_all p xs a))
-
-pub kept_none : {X : Type 0} (p : X → Bool) (xs : List X) → AllByRecursion (λ x. p x ≡ false) xs → filter p xs ≡ []
-kept_none p [] a = refl
-kept_none p (x ∷ xs) (e, a) = rw e (kept_none p xs a)
-
--- one more, with no fewer nodes before it than any other, stands behind all
-pub behind_all : (p : Piece) (ps : List Piece) → AllByRecursion (λ q. q.from ≤ p.from) ps → behind p ps ≡ ps ++ (p ∷ [])
-behind_all p ps a =
-    let front : filter (λ q. leb q.from p.from) ps ≡ ps = kept_all _ ps (All-weaker _ _ (λ q h. grind (arith, nat_tests)) ps a) in
-    let back : filter (λ q. not (leb q.from p.from)) ps ≡ [] = kept_none _ ps (All-weaker _ _ (λ q h. grind (arith, nat_tests)) ps a) in
-    cc
 
 -- the last of some
 pub last_push : (ps : List Piece) (p : Piece) → last_piece (ps ++ (p ∷ [])) ≡ Some p
@@ -40,32 +25,19 @@ pub some_push : (ps : List Piece) (p : Piece) → some_of (ps ++ (p ∷ [])) ≡
 some_push [] p = refl
 some_push (q ∷ ps) p = refl
 
-pub freed_push : (free : ℕ) (ps : List Piece) (p : Piece)
+freed_push : (free : ℕ) (ps : List Piece) (p : Piece)
     → freed free (ps ++ (p ∷ [])) ≡ ps ++ (record { list = p.list; number = p.number; from = p.from; fragment = p.fragment; free = free } ∷ [])
 unfolding freed
 freed_push free [] p = refl
 freed_push free (q ∷ []) p = refl
 freed_push free (q ∷ (r ∷ ps)) p = ap (λ xs. q ∷ xs) (freed_push free (r ∷ ps) p)
 
--- what stands up to a place, of the list of that place
+-- of the list itself, what does not stand above a place has no more nodes before it, and what does has more
 module _ (id from : ℕ) where
-  pub low_front : (xs : List Piece) → AllByRecursion (λ q. up_to id from q ≡ true) xs → filter (λ q. leb q.from from) (of_list id xs) ≡ of_list id xs
-  low_front [] a = refl
-  low_front (x ∷ xs) (e, a) = let ih = low_front xs a in grind (arith, nat_tests)
+  no_more : (b : Bool) (xs : List Piece) → All (λ q. up_to id from q ≡ b) xs → All (λ q. leb q.from from ≡ b) (of_list id xs)
+  no_more b xs a = All-passed (λ q. eqb q.list id) (λ q. leb q.from from ≡ b) xs (λ k d l e. let u = a k d l in grind (arith, nat_tests))
 
-  pub low_back : (xs : List Piece) → AllByRecursion (λ q. up_to id from q ≡ false) xs → filter (λ q. leb q.from from) (of_list id xs) ≡ []
-  low_back [] a = refl
-  low_back (x ∷ xs) (e, a) = let ih = low_back xs a in grind (arith, nat_tests)
-
-  pub high_front : (xs : List Piece) → AllByRecursion (λ q. up_to id from q ≡ true) xs → filter (λ q. not (leb q.from from)) (of_list id xs) ≡ []
-  high_front [] a = refl
-  high_front (x ∷ xs) (e, a) = let ih = high_front xs a in grind (arith, nat_tests)
-
-  pub high_back : (xs : List Piece) → AllByRecursion (λ q. up_to id from q ≡ false) xs → filter (λ q. not (leb q.from from)) (of_list id xs) ≡ of_list id xs
-  high_back [] a = refl
-  high_back (x ∷ xs) (e, a) = let ih = high_back xs a in grind (arith, nat_tests)
-
-  module _ (xs ys : List Piece) (front : AllByRecursion (λ q. up_to id from q ≡ true) xs) (back : AllByRecursion (λ q. up_to id from q ≡ false) ys) where
+  module _ (xs ys : List Piece) (front : All (λ q. up_to id from q ≡ true) xs) (back : All (λ q. up_to id from q ≡ false) ys) where
     whole : of_list id (xs ++ ys) ≡ of_list id xs ++ of_list id ys
     whole = filter-append (λ q. eqb q.list id) xs ys
 
@@ -73,16 +45,18 @@ module _ (id from : ℕ) where
     low_whole =
         ap (filter (λ q. leb q.from from)) whole
         ∙ filter-append (λ q. leb q.from from) (of_list id xs) (of_list id ys)
-        ∙ rw (low_front xs front, low_back ys back) (append-nil (of_list id xs))
+        ∙ rw (filter_all (λ q. leb q.from from) (of_list id xs) (no_more true xs front), filter_none (λ q. leb q.from from) (of_list id ys) (no_more false ys back)) (append-nil (of_list id xs))
 
     pub high_whole : filter (λ q. not (leb q.from from)) (of_list id (xs ++ ys)) ≡ of_list id ys
     high_whole =
+        let none = filter_none (λ q. not (leb q.from from)) (of_list id xs) (λ k d l. ap not (no_more true xs front k d l)) in
+        let all = filter_all (λ q. not (leb q.from from)) (of_list id ys) (λ k d l. ap not (no_more false ys back k d l)) in
         ap (filter (λ q. not (leb q.from from))) whole
         ∙ filter-append (λ q. not (leb q.from from)) (of_list id xs) (of_list id ys)
-        ∙ rw (high_front xs front, high_back ys back) refl
+        ∙ rw (none, all) refl
 
 -- one more at its place
-pub put_between : (p : Piece) (xs ys : List Piece) → AllByRecursion (λ q. up_to p.list p.from q ≡ true) xs → AllByRecursion (λ q. up_to p.list p.from q ≡ false) ys
+pub put_between : (p : Piece) (xs ys : List Piece) → All (λ q. up_to p.list p.from q ≡ true) xs → All (λ q. up_to p.list p.from q ≡ false) ys
     → (id : ℕ) → of_list id (xs ++ (p ∷ ys)) ≡ put_in p id (of_list id (xs ++ ys))
 put_between p xs ys front back id =
     let more = filter-append (λ (q : Piece). eqb q.list id) xs (p ∷ ys) in

@@ -1,210 +1,162 @@
--- Fragments in order: what a search finds, and what one more leaves in order.
-use Rattle.std.proofs.Common.{◌≡◌, ℕ, suc, ◌+◌, ◌-◌, ◌^◌, ◌<◌, ◌≤◌, true, false, cond, eqb, leb, List, [], ◌∷◌, ◌++◌, length, get_or, take, drop, set, Some, None, filter, sym, refl, ap, ◌∙◌, subst, inl, inr, arith}
-use Rattle.std.specs.List.{AllByRecursion, insert}
+-- Fragments in order: what a search finds, and what one more or another free place leaves in order.
+use Rattle.std.proofs.Common.{◌≡◌, ℕ, suc, ◌+◌, ◌^◌, ◌<◌, ◌≤◌, Bool, true, false, min, cond, eqb, leb, List, [], ◌∷◌, ◌++◌, length, get_or, take, drop, set, Some, None, MatchOption, filter, sym, refl, ap, ◌∙◌, subst, inl, inr, arith}
+use Rattle.std.specs.List.{All, AllPairs, insert}
+use Rattle.std.specs.List.Sorted.{IsPartitionedBy, IsPartitionPoint}
+use Rattle.std.specs.Bool.{then_some}
+use Rattle.std.specs.Ordering.{nat_cmp, is_le, is_some_and, partial_ordering_then}
 use Rattle.std.proofs.lemmas.List.Elements.{filter_more}
-use Rattle.std.proofs.ByRecursion.{All-from_get_or, all_kept_by}
-use Rattle.std.proofs.lemmas.List.{take-append-drop, get_or-take, get_or-drop, length-take-le, length-drop, get_or_read_under, get_or-set_same, get_or-set_other, set-get_or, set_split}
-use Rattle.std.proofs.lemmas.Bool.{cases_lt, cases_order, cases_eq, cases_Bool}
+use Rattle.std.proofs.lemmas.List.{take-append-drop, get_or-take, length-set, length-take-le, get_or_default, get_or-set_same, get_or-set_other, set-get_or, set_split}
+use Rattle.std.proofs.lemmas.Bool.{cases_lt, cases_eq, cases_Bool}
 use Rattle.std.proofs.lemmas.Bool.Decides.{nat_tests}
+use Rattle.bounded.proofs.Places.{All-front, All-back, AllPairs-insert}
+use Rattle.bounded.proofs.Filters.{filter_all, filter_none, All-passed}
 use Rattle.pieces.specs.declared.piece.Piece.{Piece}
 use Rattle.pieces.specs.Found.{of_list, some_of, last_piece, last_from, put_in, freed}
-use Rattle.pieces.specs.Placed.{no_piece, piece_at, up_to, Ordered, Place, ends}
-use Rattle.pieces.proofs.Kept.{kept_all, kept_none, last_push, some_push, low_whole, put_between, freed_between}
+use Rattle.pieces.specs.Placed.{no_piece, piece_at, up_to, front_of, IsLast}
+use Rattle.pieces.proofs.Kept.{last_push, some_push, low_whole, put_between, freed_between}
 
--- what stands below something up to a place stands up to it too, and what stands above something above it does not
+abbrev pub Ordered : List Piece → Type 0
+Ordered ps = AllPairs (λ p q. up_to q.list q.from p ≡ true) ps
+
+-- what stands below something up to a place stands up to it too
 below_too : (id from : ℕ) (p q : Piece) → up_to id from p ≡ true → up_to p.list p.from q ≡ true → up_to id from q ≡ true
 below_too id from p q e f = grind (arith, nat_tests)
-
-above_too : (id from : ℕ) (p q : Piece) → up_to id from p ≡ false → up_to q.list q.from p ≡ true → up_to id from q ≡ false
-above_too id from p q e f = grind (arith, nat_tests)
 
 -- what is not up to p stands above it
 stands_above : (p q : Piece) → up_to p.list p.from q ≡ false → up_to q.list q.from p ≡ true
 stands_above p q e = grind (arith, nat_tests)
 
-module _ (ps : List Piece) (n : ℕ) (ordered : Ordered ps n) where
-  pub below_step : (id from m : ℕ) → m < n → up_to id from (piece_at ps m) ≡ true → (i : ℕ) → i < m + 1 → up_to id from (piece_at ps i) ≡ true
-  below_step id from m l e i b = elim (cases_lt i m) [
-    | inl h ↦ below_too id from (piece_at ps m) (piece_at ps i) e (ordered i m (h, l))
-    | inr h ↦ let q : i ≡ m = omega arith in rw q e
-  ]
+-- the comparison of a list and a number of nodes, as the code makes it
+abbrev pub pair_test : ℕ → ℕ → Piece → Bool
+pair_test id from p = is_some_and is_le (partial_ordering_then (Some (nat_cmp p.list id)) (Some (nat_cmp p.from from)))
 
-  pub above_step : (id from m : ℕ) → up_to id from (piece_at ps m) ≡ false → (i : ℕ) → m ≤ i → i < n → up_to id from (piece_at ps i) ≡ false
-  above_step id from m e i b l = elim (cases_lt m i) [
-    | inl h ↦ above_too id from (piece_at ps m) (piece_at ps i) e (ordered m i (h, l))
-    | inr h ↦ let q : i ≡ m = omega arith in rw q e
-  ]
+pub pair_up_to : (id from : ℕ) (p : Piece) → up_to id from p ≡ pair_test id from p
+pair_up_to id from p = grind (arith, nat_tests)
+
+pub parts : (id from : ℕ) (ps : List Piece) (i : ℕ) → IsPartitionPoint (λ q. pair_test id from q ≡ true) (λ q. pair_test id from q ≡ false) ps i
+    → IsPartitionPoint (λ q. up_to id from q ≡ true) (λ q. up_to id from q ≡ false) ps i
+parts id from ps i place = (λ k d h l. pair_up_to id from (get_or ps k d) ∙ place.0 k d h l, λ k d h l. pair_up_to id from (get_or ps k d) ∙ place.1 k d h l)
+
+module _ (ps : List Piece) (ordered : Ordered ps) where
+  -- what a search asks
+  pub parted : (id from : ℕ) → IsPartitionedBy (pair_test id from) ps
+  parted id from i j d h l t =
+      let e : up_to id from (get_or ps j d) ≡ true = pair_up_to id from (get_or ps j d) ∙ t in
+      sym (pair_up_to id from (get_or ps i d)) ∙ elim (cases_lt i j) [
+        | inl b ↦ below_too id from (get_or ps j d) (get_or ps i d) e (ordered i j d b l)
+        | inr b ↦ let q : i ≡ j = omega arith in rw q e
+      ]
 
   -- another one with the same place in the order
-  module _ (long : n ≡ length ps) (m : ℕ) (there : m < n) (y : Piece) (was : y ≡ get_or ps m y) (x : Piece) (same_list : x.list ≡ y.list) (same_from : x.from ≡ y.from) where
-    kept_key : (k : ℕ) → ((piece_at (set ps m x) k).list ≡ (piece_at ps k).list) × ((piece_at (set ps m x) k).from ≡ (piece_at ps k).from)
-    kept_key k = elim (cases_eq k m) [
+  module _ (m : ℕ) (there : m < length ps) (x : Piece) (same_list : x.list ≡ (piece_at ps m).list) (same_from : x.from ≡ (piece_at ps m).from) where
+    kept_key : (k : ℕ) (d : Piece) → ((get_or (set ps m x) k d).list ≡ (get_or ps k d).list) × ((get_or (set ps m x) k d).from ≡ (get_or ps k d).from)
+    kept_key k d = elim (cases_eq k m) [
       | inl p ↦
-          let e = get_or-set_same ps m x no_piece (omega arith) in
-          let r = get_or_read_under ps m n y no_piece was there long in
+          let e = get_or-set_same ps m x d there in
+          let r = get_or_default ps m no_piece d there in
           rw (p, e) (same_list ∙ ap (λ (q : Piece). q.list) r, same_from ∙ ap (λ (q : Piece). q.from) r)
-      | inr p ↦ let e = get_or-set_other ps m k x no_piece p in (ap (λ (q : Piece). q.list) e, ap (λ (q : Piece). q.from) e)
+      | inr p ↦ let e = get_or-set_other ps m k x d p in (ap (λ (q : Piece). q.list) e, ap (λ (q : Piece). q.from) e)
     ]
 
-    pub ordered_set : Ordered (set ps m x) n
-    ordered_set j k (h, l) =
-        let o = ordered j k (h, l) in
-        let (a, b) = kept_key j in
-        let (c, d) = kept_key k in
-        rw (a, b, c, d) o
+    pub ordered_set : Ordered (set ps m x)
+    ordered_set j k d h l = let (a, b) = kept_key j d in let (s, t) = kept_key k d in rw (a, b, s, t) (ordered j k d h (omega (arith, length-set {A = Piece})))
 
-    pub fits_set : ((k : ℕ) → k < n → (piece_at ps k).from < 2 ^ 32) → (k : ℕ) → k < n → (piece_at (set ps m x) k).from < 2 ^ 32
-    fits_set f k l = let (a, b) = kept_key k in omega (arith, f k l)
+    pub fits_set : All (λ p. p.from < 2 ^ 32) ps → All (λ p. p.from < 2 ^ 32) (set ps m x)
+    fits_set fits k d l = let (a, b) = kept_key k d in rw b (fits k d (omega (arith, length-set {A = Piece})))
 
-  module _ (long : n ≡ length ps) (id from i : ℕ) (place : Place id from ps n i) where
-    -- the place splits them
-    front : AllByRecursion (λ q. up_to id from q ≡ true) (take i ps)
-    front = All-from_get_or _ (take i ps) no_piece (λ k h.
-        let w = place.within in
-        let t = length-take-le i ps (omega arith) in
-        let l : k < i = omega arith in
-        rw (get_or-take i ps k no_piece l) (place.below k l))
+  module _ (id from i : ℕ) (within : i ≤ length ps) (place : IsPartitionPoint (λ q. up_to id from q ≡ true) (λ q. up_to id from q ≡ false) ps i) where
+    -- what is kept of the list is what stands before the place
+    kept_before : front_of id from ps ≡ of_list id (take i ps)
+    kept_before =
+        ap (λ (qs : List Piece). filter (λ q. leb q.from from) (of_list id qs)) (sym (take-append-drop i ps))
+        ∙ low_whole id from (take i ps) (drop i ps) (All-front (λ q. up_to id from q ≡ true) ps i place.0) (All-back (λ q. up_to id from q ≡ false) ps i place.1)
 
-    back : AllByRecursion (λ q. up_to id from q ≡ false) (drop i ps)
-    back = All-from_get_or _ (drop i ps) no_piece (λ k h.
-        let t = length-drop i ps in
-        rw (get_or-drop i ps k no_piece) (place.above (i + k) (omega arith) (omega arith)))
+    pub none_before : i ≡ 0 → front_of id from ps ≡ []
+    none_before e = rw e at kept_before
 
-    -- so what is kept of the list is what stands before it
-    pub kept_before : filter (λ q. leb q.from from) (of_list id ps) ≡ of_list id (take i ps)
-    kept_before = ap (λ (qs : List Piece). filter (λ q. leb q.from from) (of_list id qs)) (sym (take-append-drop i ps)) ∙ low_whole id from (take i ps) (drop i ps) front back
+    -- the last one before the place, or none before it is one of the list
+    module _ (m : ℕ) (next : i ≡ m + 1) where
+      before : of_list id (take i ps) ≡ of_list id (take m ps) ++ cond (eqb (piece_at ps m).list id) (piece_at ps m ∷ []) []
+      before = rw next (filter_more (λ (q : Piece). eqb q.list id) ps m no_piece (omega arith))
 
-    -- the last one before it, if it is one of the list
-    ends_there : true ≡ ends id ps i → (0 < i) × ((piece_at ps (i - 1)).list ≡ id)
-    ends_there t = (grind (arith, nat_tests), grind (arith, nat_tests))
+      is_last : eqb (piece_at ps m).list id ≡ true → IsLast id from ps m
+      is_last e = record { within = omega arith; own = grind (arith, nat_tests); front = kept_before ∙ (rw e at before) }
 
-    pub before_some : true ≡ ends id ps i → of_list id (take i ps) ≡ of_list id (take (i - 1) ps) ++ (piece_at ps (i - 1) ∷ [])
-    before_some t =
-        let s = ends_there t in
-        let w = place.within in
-        let p : 0 < i = s.0 in
-        let e = filter_more (λ (q : Piece). eqb q.list id) ps (i - 1) no_piece (omega arith) in
-        let a : (i - 1) + 1 ≡ i = omega arith in
-        let is : eqb (piece_at ps (i - 1)).list id ≡ true = grind (arith, nat_tests) in
-        (rw (a, is) at e)
+      others : eqb (piece_at ps m).list id ≡ false → All (λ q. eqb q.list id ≡ false) (take m ps)
+      others e k d l =
+          let n = length-take-le m ps (omega arith) in
+          let b : k < m = omega arith in
+          let o = ordered k m no_piece b (omega arith) in
+          let low = place.0 m no_piece (omega arith) (omega arith) in
+          rw (get_or-take m ps k d b, get_or_default ps k d no_piece (omega arith)) (grind (arith, nat_tests))
 
-    -- without it there is none
-    other : false ≡ ends id ps i → (k : ℕ) → k < i → eqb (piece_at ps k).list id ≡ false
-    other t k l =
-        let w = place.within in
-        let not_last : eqb (piece_at ps (i - 1)).list id ≡ false = grind (arith, nat_tests) in
-        let low = place.below (i - 1) (omega arith) in
-        elim (cases_lt k (i - 1)) [
-          | inl h ↦ let o = ordered k (i - 1) (h, omega arith) in grind (arith, nat_tests)
-          | inr h ↦ let q : k ≡ i - 1 = omega arith in rw q not_last
-        ]
+      none_last : eqb (piece_at ps m).list id ≡ false → front_of id from ps ≡ []
+      none_last e = kept_before ∙ (rw (e, filter_none _ _ (others e)) at before)
 
-    pub before_none : false ≡ ends id ps i → of_list id (take i ps) ≡ []
-    before_none t = kept_none _ (take i ps) (All-from_get_or _ (take i ps) no_piece (λ k h.
-        let w = place.within in
-        let z = length-take-le i ps (omega arith) in
-        let l : k < i = omega arith in
-        rw (get_or-take i ps k no_piece l) (other t k l)))
+      pub last_there : (b : Bool) → b ≡ eqb (piece_at ps m).list id → MatchOption (then_some b m) (front_of id from ps ≡ []) (IsLast id from ps)
+      last_there true e = is_last (sym e)
+      last_there false e = none_last (sym e)
 
-    pub found : true ≡ ends id ps i → (x : Piece) → x ≡ get_or ps (i - 1) x → Some x ≡ last_from from (of_list id ps)
-    found t x is =
-        let s = ends_there t in
-        let w = place.within in
-        let r = get_or_read_under ps (i - 1) n x no_piece is (omega arith) long in
-        let e = kept_before ∙ before_some t in
-        let f = last_push (of_list id (take (i - 1) ps)) (piece_at ps (i - 1)) in
-        ap Some r ∙ sym f ∙ sym (ap last_piece e)
+-- one more at its place
+module _ (ps : List Piece) (p : Piece) (i : ℕ) (within : i ≤ length ps)
+    (place : IsPartitionPoint (λ q. up_to p.list p.from q ≡ true) (λ q. up_to p.list p.from q ≡ false) ps i) where
+  pub ordered_more : Ordered ps → Ordered (insert ps i p)
+  ordered_more ordered = AllPairs-insert (λ q r. up_to r.list r.from q ≡ true) ps i ordered p within (λ k d h l. place.0 k d h l) (λ k d h l. stands_above p (get_or ps k d) (place.1 k d h l))
 
-    pub not_found : false ≡ ends id ps i → None ≡ last_from from (of_list id ps)
-    unfolding last_piece
-    not_found t = sym (ap last_piece (kept_before ∙ before_none t))
+  pub put_holds : (id : ℕ) → of_list id (insert ps i p) ≡ put_in p id (of_list id ps)
+  put_holds id =
+      put_between p (take i ps) (drop i ps) (All-front (λ q. up_to p.list p.from q ≡ true) ps i place.0) (All-back (λ q. up_to p.list p.from q ≡ false) ps i place.1) id
+      ∙ ap (λ (qs : List Piece). put_in p id (of_list id qs)) (take-append-drop i ps)
 
-    -- one more at its place stands in order
-    module _ (ts : List Piece) (x : Piece) (is_list : x.list ≡ id) (is_from : x.from ≡ from)
-        (at' : get_or ts i no_piece ≡ x)
-        (low : (k : ℕ) → k < i → get_or ts k no_piece ≡ get_or ps k no_piece)
-        (high : (k : ℕ) → i < k → get_or ts k no_piece ≡ get_or ps (k - 1) no_piece) where
-      -- what stands from the place on stands above it
-      above_it : (k : ℕ) → i ≤ k → k < n → up_to (piece_at ps k).list (piece_at ps k).from x ≡ true
-      above_it k h l = let a = place.above k h l in stands_above x (piece_at ps k) (rw (is_list, is_from) a)
+  -- what each list holds after an insert, whether there was room or not
+  pub put_or_not : (n : ℕ) → i ≤ n → (b : Bool) (ts : List Piece) → ts ≡ cond b (insert ps (min i n) p) ps → (id : ℕ) → of_list id ts ≡ cond b (put_in p id (of_list id ps)) (of_list id ps)
+  put_or_not n l true ts e id = let m : min i n ≡ i = omega arith in rw (e, m) (put_holds id)
+  put_or_not n l false ts e id = rw e refl
 
-      below_it : (k : ℕ) → k < i → up_to x.list x.from (piece_at ps k) ≡ true
-      below_it k h = rw (is_list, is_from) (place.below k h)
+-- a list's last fragment, as it is found
+module _ (ps : List Piece) (id from : ℕ) where
+  pub found : (i : ℕ) → IsLast id from ps i → Some (piece_at ps i) ≡ last_from from (of_list id ps)
+  found i last = sym (ap last_piece last.front ∙ last_push (of_list id (take i ps)) (piece_at ps i))
 
-      pub ordered_more : Ordered ts (n + 1)
-      ordered_more j k (h, l) = elim (cases_order j i) [
-        | inl e ↦ let q = high k (omega arith) in let z = above_it (k - 1) (omega arith) (omega arith) in rw (e, at', q) z
-        | inr (inl b) ↦ elim (cases_order k i) [
-          | inl e ↦ let p = low j b in let z = below_it j b in rw (e, at', p) z
-          | inr (inl d) ↦ let p = low j b in let q = low k d in let w = place.within in let z = ordered j k (h, omega arith) in rw (p, q) z
-          | inr (inr d) ↦ let p = low j b in let q = high k d in let z = ordered j (k - 1) (omega arith, omega arith) in rw (p, q) z
-        ]
-        | inr (inr b) ↦ let p = high j b in let q = high k (omega arith) in let z = ordered (j - 1) (k - 1) (omega arith, omega arith) in rw (p, q) z
-      ]
+  pub not_found : front_of id from ps ≡ [] → None ≡ last_from from (of_list id ps)
+  unfolding last_piece
+  not_found none = sym (ap last_piece none)
 
-      pub fits_more : ((k : ℕ) → k < n → (piece_at ps k).from < 2 ^ 32) → x.from < 2 ^ 32 → (k : ℕ) → k < n + 1 → (piece_at ts k).from < 2 ^ 32
-      fits_more f fit k l = elim (cases_order k i) [
-        | inl e ↦ rw (e, at') fit
-        | inr (inl b) ↦ let w = place.within in rw (low k b) (f k (omega arith))
-        | inr (inr b) ↦ rw (high k b) (f (k - 1) (omega arith))
-      ]
+-- none has more nodes before it than the highest number
+module _ (ps : List Piece) (fits : All (λ p. p.from < 2 ^ 32) ps) (id : ℕ) where
+  pub all_low : front_of id 4294967295 ps ≡ of_list id ps
+  all_low = filter_all (λ q. leb q.from 4294967295) (of_list id ps) (All-passed (λ q. eqb q.list id) (λ q. leb q.from 4294967295 ≡ true) ps (λ k d l e. let f = fits k d l in grind (arith, nat_tests)))
 
--- all stand up to the highest number
-pub all_low : (ps : List Piece) (n : ℕ) → n ≡ length ps → ((k : ℕ) → k < n → (piece_at ps k).from < 2 ^ 32) → (id : ℕ) → filter (λ q. leb q.from 4294967295) (of_list id ps) ≡ of_list id ps
-all_low ps n long fits id =
-    kept_all _ (of_list id ps) (all_kept_by _ _ ps (All-from_get_or _ ps no_piece (λ k h. let f = fits k (omega arith) in grind (arith, nat_tests))))
+  module _ (none : front_of id 4294967295 ps ≡ []) where
+    pub is_none : false ≡ some_of (of_list id ps)
+    is_none = sym (ap some_of (sym all_low ∙ none))
 
--- what each list holds once one is put in at its place
-pub put_holds : (ps : List Piece) (n : ℕ) → Ordered ps n → n ≡ length ps → (p : Piece) (i : ℕ) → Place p.list p.from ps n i
-    → (ts : List Piece) → ts ≡ insert ps i p → (id : ℕ) → of_list id ts ≡ put_in p id (of_list id ps)
-put_holds ps n ordered long p i place ts is id =
-    ap (of_list id) is
-    ∙ put_between p (take i ps) (drop i ps) (front ps n ordered long _ _ i place) (back ps n ordered long _ _ i place) id
-    ∙ ap (λ (qs : List Piece). put_in p id (of_list id qs)) (take-append-drop i ps)
+    pub none_freed : (free z : ℕ) → of_list z ps ≡ cond (eqb id z) (freed free (of_list z ps)) (of_list z ps)
+    unfolding freed
+    none_freed free z = elim (cases_Bool (eqb id z)) [
+      | inl e ↦
+          let q : id ≡ z = grind (arith, nat_tests) in
+          let o : of_list z ps ≡ [] = rw q at (sym all_low ∙ none) in
+          rw (e, o) refl
+      | inr e ↦ rw e refl
+    ]
 
--- a list's last fragment stands before the place of the highest number
-module _ (ps : List Piece) (n : ℕ) (ordered : Ordered ps n) (long : n ≡ length ps) (fits : (k : ℕ) → k < n → (piece_at ps k).from < 2 ^ 32)
-    (id i : ℕ) (place : Place id 4294967295 ps n i) where
-  whole : of_list id ps ≡ of_list id (take i ps)
-  whole = sym (all_low ps n long fits id) ∙ kept_before ps n ordered long id 4294967295 i place
+  module _ (i : ℕ) (last : IsLast id 4294967295 ps i) where
+    whole : of_list id ps ≡ of_list id (take i ps) ++ (piece_at ps i ∷ [])
+    whole = sym all_low ∙ last.front
 
-  pub none_there : false ≡ ends id ps i → of_list id ps ≡ []
-  none_there t = whole ∙ before_none ps n ordered long id 4294967295 i place t
+    pub is_some : true ≡ some_of (of_list id ps)
+    is_some = sym (ap some_of whole ∙ some_push (of_list id (take i ps)) (piece_at ps i))
 
-  some_there : true ≡ ends id ps i → of_list id ps ≡ of_list id (take (i - 1) ps) ++ (piece_at ps (i - 1) ∷ [])
-  some_there t = whole ∙ before_some ps n ordered long id 4294967295 i place t
-
-  pub is_some : true ≡ ends id ps i → true ≡ some_of (of_list id ps)
-  is_some t = sym (ap some_of (some_there t) ∙ some_push (of_list id (take (i - 1) ps)) (piece_at ps (i - 1)))
-
-  pub is_none : false ≡ ends id ps i → false ≡ some_of (of_list id ps)
-  is_none t = sym (ap some_of (none_there t))
-
-  pub none_freed : false ≡ ends id ps i → (free z : ℕ) → of_list z ps ≡ cond (eqb id z) (freed free (of_list z ps)) (of_list z ps)
-  unfolding freed
-  none_freed t free z = elim (cases_Bool (eqb id z)) [
-    | inl e ↦
-        let q : id ≡ z = grind (arith, nat_tests) in
-        let o : of_list z ps ≡ [] = rw q at (none_there t) in
-        rw (e, o) refl
-    | inr e ↦ rw e refl
-  ]
-
-  pub some_freed : true ≡ ends id ps i → (free : ℕ) (x : Piece) → x ≡ get_or ps (i - 1) x
-      → (z : ℕ) → of_list z (set ps (i - 1) (record { list = x.list; number = x.number; from = x.from; fragment = x.fragment; free = free }))
-      ≡ cond (eqb id z) (freed free (of_list z ps)) (of_list z ps)
-  some_freed t free x is z =
-      let s = ends_there ps n ordered long id 4294967295 i place t in
-      let w = place.within in
-      let p : i - 1 < length ps = omega (arith, s.0) in
-      let r : x ≡ piece_at ps (i - 1) = get_or_read_under ps (i - 1) n x no_piece is (omega arith) long in
-      let own : x.list ≡ id = ap (λ (q : Piece). q.list) r ∙ s.1 in
-      let parts : ps ≡ take (i - 1) ps ++ (x ∷ drop (suc (i - 1)) ps) = sym (set-get_or ps (i - 1) x) ∙ ap (set ps (i - 1)) (sym is) ∙ set_split ps (i - 1) x p in
-      let last : of_list id ps ≡ of_list id (take (i - 1) ps) ++ (x ∷ []) = some_there t ∙ ap (λ (q : Piece). of_list id (take (i - 1) ps) ++ (q ∷ [])) (sym r) in
-      let last_own : of_list x.list (take (i - 1) ps ++ (x ∷ drop (suc (i - 1)) ps)) ≡ of_list x.list (take (i - 1) ps) ++ (x ∷ [])
-      = subst (λ (m : ℕ). of_list m (take (i - 1) ps ++ (x ∷ drop (suc (i - 1)) ps)) ≡ of_list m (take (i - 1) ps) ++ (x ∷ [])) (sym own) (ap (of_list id) (sym parts) ∙ last) in
-      let f = freed_between free (take (i - 1) ps) (drop (suc (i - 1)) ps) x last_own z in
-      ap (of_list z) (set_split ps (i - 1) _ p)
-      ∙ f
-      ∙ ap (λ (qs : List Piece). cond (eqb x.list z) (freed free (of_list z qs)) (of_list z qs)) (sym parts)
-      ∙ ap (λ (m : ℕ). cond (eqb m z) (freed free (of_list z ps)) (of_list z ps)) own
+    pub some_freed : (free z : ℕ)
+        → of_list z (set ps i (record { list = (piece_at ps i).list; number = (piece_at ps i).number; from = (piece_at ps i).from; fragment = (piece_at ps i).fragment; free = free }))
+        ≡ cond (eqb id z) (freed free (of_list z ps)) (of_list z ps)
+    some_freed free z =
+        let x = piece_at ps i in
+        let parts : ps ≡ take i ps ++ (x ∷ drop (suc i) ps) = sym (set-get_or ps i no_piece) ∙ set_split ps i x last.within in
+        let own_whole : of_list x.list (take i ps ++ (x ∷ drop (suc i) ps)) ≡ of_list x.list (take i ps) ++ (x ∷ [])
+        = subst (λ (m : ℕ). of_list m (take i ps ++ (x ∷ drop (suc i) ps)) ≡ of_list m (take i ps) ++ (x ∷ [])) (sym last.own) (ap (of_list id) (sym parts) ∙ whole) in
+        ap (of_list z) (set_split ps i _ last.within)
+        ∙ freed_between free (take i ps) (drop (suc i) ps) x own_whole z
+        ∙ ap (λ (qs : List Piece). cond (eqb x.list z) (freed free (of_list z qs)) (of_list z qs)) (sym parts)
+        ∙ ap (λ (m : ℕ). cond (eqb m z) (freed free (of_list z ps)) (of_list z ps)) last.own

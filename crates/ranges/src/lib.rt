@@ -1,129 +1,109 @@
 //! Ranges of a file that share no byte with one another, ordered by their starts: whether another range shares a byte with one of them.
 #![tactic(auto)]
 
-ghost use Rattle.std.specs.Prelude.{◌≡◌, ℕ, ◌+◌, ◌<◌, ◌≤◌, true, false, not, ◌&&◌, [], IfOk, vec_len, vec_capacity, nat_lt};
-ghost use Rattle.model.specs.References.{meets};
-ghost use Rattle.ranges.specs.Ordered.{start_at, end_at, reaches, begins_within, near, Adds};
+ghost use Rattle.std.specs.Prelude.{◌≡◌, ◌+◌, ◌<◌, ◌≤◌, ◌&&◌, not, [], All, AllPairs, IfOk, OnOk, OnErr, is_ok, nat_lt, length};
+ghost use Rattle.std.specs.List.Sorted.{IsPartitionPoint};
+ghost use Rattle.model.specs.References.{end_of, share, meets};
+ghost use Rattle.ranges.specs.Ordered.{Adds};
+ghost use Rattle.ranges.specs.Insertion.{inserted};
 
+use bounded::Bounded;
+use model::limits::MOST_FRAGMENTS;
 use model::types::Span;
 use std::alloc::{AllocError, Global};
 
-/// How many ranges there may be.
-pub const MOST: usize = 2048;
+/// Why a range is not added.
+#[derive(Clone, Copy, PartialEq, Eq, Debug)]
+pub enum NotAdded {
+    /// It has no bytes.
+    Empty,
+    /// It shares a byte with one that is there.
+    Shared,
+    /// There is no room for more.
+    Full,
+}
 
 #[derive(Drop)]
 pub struct Ranges {
-    spans: Vec<Span>,
-    ghost room: { 2048 ≤ vec_capacity spans },
-    ghost few: { vec_len spans ≤ 2048 },
-    ghost some: { (i : ℕ) → i < vec_len spans → start_at spans.items i < end_at spans.items i },
-    ghost ordered: { (i j : ℕ) → (i < j) × (j < vec_len spans) → end_at spans.items i ≤ start_at spans.items j },
+    spans: Bounded<Span, MOST_FRAGMENTS>,
+    ghost some: { All (λ s. 0 < s.size) spans },
+    ghost ordered: { AllPairs (λ s t. end_of s ≤ t.start) spans },
+}
+
+// Whether two ranges share a byte. An end may not fit a number, the difference of the starts does.
+fn share(a: Span, b: Span) -> bool
+    ensures { result ≡ share a b }
+{
+    a.start.saturating_sub(b.start) < b.size && b.start.saturating_sub(a.start) < a.size
 }
 
 impl Ranges {
     /// No ranges, with room for all that there may be.
     pub fn new(heap: Global) -> Result<Ranges, AllocError>
-        ensures len { IfOk result (λ s. vec_len s.spans ≡ 0) }
-        ensures items { IfOk result (λ s. s.spans.items ≡ []) }
+        ensures len { IfOk result (λ s. length s.spans ≡ 0) }
+        ensures items { IfOk result (λ s. s.spans ≡ []) }
     {
         Ok(Ranges {
-            spans: Vec::with_capacity(heap, MOST)?,
+            spans: Bounded::new(heap)?,
         })
     }
 
     /// Lets all ranges go.
     pub fn clear(&mut self)
-        ensures len { vec_len self.new.spans ≡ 0 }
-        ensures items { self.new.spans.items ≡ [] }
+        ensures len { length self.new.spans ≡ 0 }
+        ensures items { self.new.spans ≡ [] }
     {
         self.spans.clear();
     }
 
-    // The index of the first range that does not start below `start`.
-    fn place_of(&self, start: u64) -> usize
-        ensures within { result ≤ vec_len self.now.spans }
-        ensures below { (i : ℕ) → i < result → start_at self.now.spans.items i < start }
-        ensures above { (i : ℕ) → result ≤ i → i < vec_len self.now.spans → start ≤ start_at self.now.spans.items i }
-    {
-        let mut low = 0;
-        let mut high = self.spans.len();
-        while low < high {
-            let middle = low + (high - low) / 2;
-            if self.spans[middle].start < start {
-                low = middle + 1;
-            } else {
-                high = middle;
-            }
-        }
-        low
-    }
-
     /// How many ranges there are.
     pub fn len(&self) -> usize
-        ensures { result ≡ vec_len self.now.spans }
+        ensures { result ≡ length self.now.spans }
     {
         self.spans.len()
     }
 
-    /// Whether a range shares a byte with one of these. Only its two neighbours can.
+    // The index of the first range that does not start below `start`.
+    fn place_of(&self, start: u64) -> usize
+        ensures within { result ≤ length self.now.spans }
+        ensures parts { IsPartitionPoint (λ s. s.start < start) (λ s. start ≤ s.start) self.now.spans result }
+    {
+        self.spans.as_slice().partition_point(|s| s.start < start)
+    }
+
+    // Whether a range shares a byte with one of the two beside its place. It can with no other.
+    fn meets_at(&self, at: usize, span: Span) -> bool
+        requires within { at ≤ length self.now.spans }
+        requires parts { IsPartitionPoint (λ s. s.start < span.start) (λ s. span.start ≤ s.start) self.now.spans at }
+        ensures { result ≡ meets span self.now.spans }
+    {
+        let (before, behind) = self.spans.as_slice().split_at(at);
+        before.last().is_some_and(|s| share(span, *s))
+            || behind.first().is_some_and(|s| share(span, *s))
+    }
+
+    /// Whether a range shares a byte with one of these.
     pub fn meets(&self, span: Span) -> bool
-        ensures { result ≡ meets span self.now.spans.items }
+        ensures { result ≡ meets span self.now.spans }
     {
-        let i = self.place_of(span.start);
-        self.is_near(span, i)
+        self.meets_at(self.place_of(span.start), span)
     }
 
-    // Whether the range before the `i`-th, or the `i`-th itself, shares a byte with one whose place is there. An empty one shares none.
-    fn is_near(&self, span: Span, i: usize) -> bool
-        requires { i ≤ vec_len self.now.spans }
-        ensures { result ≡ near span self.now.spans.items (vec_len self.now.spans) i }
+    /// One range more, unless it is empty, shares a byte with one of these, or finds no room.
+    pub fn insert(&mut self, span: Span) -> Result<(), NotAdded>
+        ensures answer { is_ok result ≡ (nat_lt 0 span.size && (not (meets span self.old.spans) && nat_lt (length self.old.spans) MOST_FRAGMENTS)) }
+        ensures which { result ≡ inserted span self.old.spans (length self.old.spans) }
+        ensures added { OnOk result (Adds self.old.spans span self.new.spans) }
+        ensures len { OnOk result (length self.new.spans ≡ length self.old.spans + 1) }
+        ensures same { OnErr result (self.new.spans ≡ self.old.spans) }
     {
-        span.size > 0 && (self.reaches(span.start, i) || self.begins_within(span, i))
-    }
-
-    // Whether the range before the `i`-th goes on past `start`. Its end may not fit a number, the difference of the starts does.
-    fn reaches(&self, start: u64, i: usize) -> bool
-        requires { i ≤ vec_len self.now.spans }
-        ensures { result ≡ reaches start self.now.spans.items i }
-    {
-        if i == 0 {
-            return false;
+        if span.size == 0 {
+            return Err(NotAdded::Empty);
         }
-        let before = self.spans[i - 1];
-        start.saturating_sub(before.start) < before.size
-    }
-
-    // Whether the `i`-th range begins before the end of another.
-    fn begins_within(&self, span: Span, i: usize) -> bool
-        requires { 0 < span.size }
-        ensures { result ≡ begins_within span self.now.spans.items (vec_len self.now.spans) i }
-    {
-        i < self.spans.len() && self.spans[i].start.saturating_sub(span.start) < span.size
-    }
-
-    /// One range more, unless it is empty, shares a byte with one of these, or finds no room; says whether it was added.
-    pub fn insert(&mut self, span: Span) -> bool
-        ensures test { result ≡ (nat_lt 0 span.size && (not (meets span self.old.spans.items) && nat_lt (vec_len self.old.spans) 2048)) }
-        ensures added { result ≡ true → Adds self.old.spans.items span self.new.spans.items }
-        ensures len { result ≡ true → vec_len self.new.spans ≡ vec_len self.old.spans + 1 }
-        ensures same { result ≡ false → self.new.spans ≡ self.old.spans }
-    {
-        if span.size == 0 || self.meets(span) || self.spans.len() >= MOST {
-            return false;
+        let at = self.place_of(span.start);
+        if self.meets_at(at, span) {
+            return Err(NotAdded::Shared);
         }
-        self.put(span);
-        true
-    }
-
-    // Puts a range at its place.
-    fn put(&mut self, span: Span)
-        requires some { 0 < span.size }
-        requires none { meets span self.old.spans.items ≡ false }
-        requires room { vec_len self.old.spans < 2048 }
-        ensures added { Adds self.old.spans.items span self.new.spans.items }
-        ensures len { vec_len self.new.spans ≡ vec_len self.old.spans + 1 }
-    {
-        let i = self.place_of(span.start);
-        let _ = self.spans.insert(i, span);
+        self.spans.insert(at, span).map_err(|_| NotAdded::Full)
     }
 }

@@ -4,9 +4,11 @@ ghost use Rattle.refusals.specs.Refusals.{header_told, log_told, list_told, told
 ghost use Rattle.refusals.specs.declared.faults.OpenFault.TheVariants as opening;
 
 use model::types::Fault;
+use thiserror::Error;
 
 /// A field of the header is wrong.
-#[derive(Clone, Copy)]
+#[derive(Clone, Copy, PartialEq, Eq, Debug, Error)]
+#[error("{}", Fault::from(*self))]
 pub enum HeaderFault {
     /// The store is under 1,024 bytes or under the file's end, or that end is under 1,024 or over 2^40.
     Short { place: u64 },
@@ -19,7 +21,8 @@ pub enum HeaderFault {
 }
 
 /// A reference, an entry or a fragment of the log is wrong.
-#[derive(Clone, Copy)]
+#[derive(Clone, Copy, PartialEq, Eq, Debug, Error)]
+#[error("{}", Fault::from(*self))]
 pub enum LogFault {
     Outside { place: u64 },
     Sum { place: u64 },
@@ -31,7 +34,7 @@ pub enum LogFault {
 }
 
 /// A reference, a fragment or a node of a list is wrong, or a reference to data.
-#[derive(Clone, Copy)]
+#[derive(Clone, Copy, PartialEq, Eq, Debug)]
 pub enum ListFault {
     Outside { place: u64 },
     Fragment { place: u64 },
@@ -42,15 +45,17 @@ pub enum ListFault {
     Full { place: u64 },
 }
 
-/// A fault of a list, with the list's ID; 0 before it is known.
-#[derive(Clone, Copy)]
+/// A fault of a list, with the list's ID; 0 before it is known, as it is printed.
+#[derive(Clone, Copy, PartialEq, Eq, Debug, Error)]
+#[error("{}", Fault::from(*self))]
 pub struct InList {
     pub fault: ListFault,
     pub list: u32,
 }
 
 /// Why a file is not opened.
-#[derive(Clone, Copy)]
+#[derive(Clone, Copy, PartialEq, Eq, Debug, Error)]
+#[error("{}", Fault::from(*self))]
 pub enum OpenFault {
     Header(HeaderFault),
     Log(LogFault),
@@ -59,6 +64,7 @@ pub enum OpenFault {
     Busy,
 }
 
+// By hand, since a derived `From` promises nothing of what it gives.
 impl From<HeaderFault> for OpenFault {
     ghost from_gives = { λ f r. r ≡ opening.Header f };
 
@@ -83,46 +89,32 @@ impl From<InList> for OpenFault {
     }
 }
 
-impl HeaderFault {
-    /// What the refusal tells.
-    pub fn told(&self) -> Fault
-        ensures { result ≡ header_told self.now }
-    {
-        match *self {
-            HeaderFault::Short { place } => Fault {
-                number: 1,
-                layer: 1,
-                place,
-                list: 0,
-            },
-            HeaderFault::Strange { place } => Fault {
-                number: 2,
-                layer: 1,
-                place,
-                list: 0,
-            },
-            HeaderFault::Newer => Fault {
-                number: 3,
-                layer: 1,
-                place: 0x4C,
-                list: 0,
-            },
-            HeaderFault::Bare => Fault {
-                number: 4,
-                layer: 1,
-                place: 0x60,
-                list: 0,
-            },
+/// What the refusal tells. The numbers that are printed stand here, once each.
+impl From<HeaderFault> for Fault {
+    ghost from_gives = { λ f r. r ≡ header_told f };
+
+    fn from(f: HeaderFault) -> Fault {
+        let (number, place) = match f {
+            HeaderFault::Short { place } => (1, place),
+            HeaderFault::Strange { place } => (2, place),
+            HeaderFault::Newer => (3, 0x4C),
+            HeaderFault::Bare => (4, 0x60),
+        };
+        Fault {
+            number,
+            layer: 1,
+            place,
+            list: 0,
         }
     }
 }
 
-impl LogFault {
-    /// What the refusal tells.
-    pub fn told(&self) -> Fault
-        ensures { result ≡ log_told self.now }
-    {
-        let (number, place) = match *self {
+/// What the refusal tells.
+impl From<LogFault> for Fault {
+    ghost from_gives = { λ f r. r ≡ log_told f };
+
+    fn from(f: LogFault) -> Fault {
+        let (number, place) = match f {
             LogFault::Outside { place } => (5, place),
             LogFault::Sum { place } => (6, place),
             LogFault::Backward { place } => (7, place),
@@ -139,12 +131,12 @@ impl LogFault {
     }
 }
 
-impl InList {
-    /// What the refusal tells.
-    pub fn told(&self) -> Fault
-        ensures { result ≡ list_told self.now }
-    {
-        let (number, place) = match self.fault {
+/// What the refusal tells.
+impl From<InList> for Fault {
+    ghost from_gives = { λ f r. r ≡ list_told f };
+
+    fn from(f: InList) -> Fault {
+        let (number, place) = match f.fault {
             ListFault::Outside { place } => (5, place),
             ListFault::Fragment { place } => (8, place),
             ListFault::Node { place } => (9, place),
@@ -157,20 +149,20 @@ impl InList {
             number,
             layer: 3,
             place,
-            list: self.list,
+            list: f.list,
         }
     }
 }
 
-impl OpenFault {
-    /// What the refusal tells: that of the lower layer whole.
-    pub fn told(&self) -> Fault
-        ensures { result ≡ told self.now }
-    {
-        match self {
-            OpenFault::Header(f) => f.told(),
-            OpenFault::Log(f) => f.told(),
-            OpenFault::List(f) => f.told(),
+/// What the refusal tells: that of the lower layer whole.
+impl From<OpenFault> for Fault {
+    ghost from_gives = { λ f r. r ≡ told f };
+
+    fn from(f: OpenFault) -> Fault {
+        match f {
+            OpenFault::Header(f) => f.into(),
+            OpenFault::Log(f) => f.into(),
+            OpenFault::List(f) => f.into(),
             OpenFault::Busy => Fault {
                 number: 14,
                 layer: 4,

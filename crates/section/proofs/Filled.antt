@@ -1,10 +1,10 @@
 -- What reading a file answers, from what its parts answer.
-use Rattle.std.proofs.Common.{◌≡◌, ℕ, List, [], length, IsErrAnd, Some, None, Ok, Err, vec_items, Result, sym, refl, ap, ◌∙◌}
+use Rattle.std.proofs.Common.{◌≡◌, ℕ, List, [], length, IsErrAnd, Some, None, Ok, Err, vec_items, Option, Result, sym, refl, ap, ◌∙◌, arith}
 use Rattle.model.specs.declared.types.Span.{Span}
-use Rattle.model.specs.declared.types.Entry.{Entry}
 use Rattle.model.specs.declared.types.Header.{Header}
+use Rattle.model.specs.declared.types.Fault.{Fault}
 use Rattle.model.specs.Faults.{refused}
-use Rattle.model.specs.Section.{Log}
+use Rattle.model.specs.Section.{Log, NodeList}
 use Rattle.model.specs.OpenedLists.{named_first, lists_from}
 use Rattle.model.specs.Opened.{all_data}
 use Rattle.model.specs.Breaks.{Walked}
@@ -15,25 +15,27 @@ use Rattle.refusals.specs.declared.faults.ListFault.{ListFault}
 use Rattle.refusals.specs.declared.faults.ListFault.TheVariants as list
 use Rattle.refusals.specs.declared.faults.InList.{InList}
 use Rattle.refusals.specs.declared.faults.OpenFault.{OpenFault}
+use Rattle.refusals.specs.declared.faults.OpenFault.TheVariants as opening
 use Rattle.refusals.specs.Refusals.{log_told, list_fault, list_told, told}
 use Rattle.refusals.specs.Checked.{told_by}
 use Rattle.tables.specs.declared.room.Room.{Room}
 use Rattle.tables.specs.declared.room.Row.{Row}
-use Rattle.log_pass.specs.Logs.{LogRead}
+use Rattle.tables.specs.declared.queue.Named.{Named}
+use Rattle.log_pass.specs.Logs.{whole_log, all_counts, Refuses, LogRead}
 use Rattle.lists_pass.specs.Opening.{Holds, AllRead}
 use Rattle.data_pass.specs.Files.{Filed}
+use Rattle.data_pass.proofs.AllSteps.{rows_length}
 use Rattle.section.specs.declared.access.Access.{Access}
 use Rattle.section.specs.OpenAnswers.{opened_in, ReadsAs, ReadsFile}
-use Rattle.section.proofs.Joined.{Right, Logged, holds_log, lists_refused, walked_of, data_refused, all_read, in_room}
-use Rattle.section.proofs.Opens.{rows_number}
+use Rattle.section.proofs.Joined.{Right, Logged, log_refused, holds_log, lists_refused, walked_of, data_refused, all_read, in_room}
 
 pub reads_err : (mark : ℕ) (b : List ℕ) (capacity : ℕ) (room : Room) (r : Result Access OpenFault) (e : OpenFault) → IsErrAnd r (λ y. y ≡ e) → opened_in capacity b ≡ refused (told e)
-    → ((told e).layer ≡ 1 → vec_items room.lists ≡ []) → ReadsFile mark b capacity room r
+    → ((told e).layer ≡ 1 → room.lists ≡ []) → ReadsFile mark b capacity room r
 reads_err mark b capacity room (Ok a) e x t n = absurd x
 reads_err mark b capacity room (Err y) e x t n = (t ∙ ap (λ z. refused (told z)) (sym x), λ l. n (ap (λ z. (told z).layer) (sym x) ∙ l))
 
 -- faults of the log and of a list are in layers of their own
-pub log_layer : (x : LogFault) → (log_told x).layer ≡ 2
+log_layer : (x : LogFault) → (log_told x).layer ≡ 2
 log_layer (log.Outside p) = refl
 log_layer (log.Sum p) = refl
 log_layer (log.Backward p) = refl
@@ -41,64 +43,80 @@ log_layer (log.Overlap p) = refl
 log_layer (log.Full p) = refl
 log_layer (log.Room p) = refl
 
-fault_layer : (x : ListFault) (id : ℕ) → (list_fault x id).layer ≡ 3
-fault_layer (list.Outside p) id = refl
-fault_layer (list.Fragment p) id = refl
-fault_layer (list.Node p) id = refl
-fault_layer (list.Unlisted p) id = refl
-fault_layer (list.Overlap p) id = refl
-fault_layer (list.Twice p) id = refl
-fault_layer (list.Full p) id = refl
+list_layer : (x : ListFault) (id : ℕ) → (list_fault x id).layer ≡ 3
+list_layer (list.Outside p) id = refl
+list_layer (list.Fragment p) id = refl
+list_layer (list.Node p) id = refl
+list_layer (list.Unlisted p) id = refl
+list_layer (list.Overlap p) id = refl
+list_layer (list.Twice p) id = refl
+list_layer (list.Full p) id = refl
 
-pub list_layer : (e : InList) → (list_told e).layer ≡ 3
-list_layer e = fault_layer e.fault e.list
+-- reading the log refuses the file
+pub log_err : (mark : ℕ) (b : List ℕ) (h : Header) (capacity : ℕ) (room : Room) (r : Result Access OpenFault) (x : LogFault) → IsErrAnd r (λ y. y ≡ opening.Log x) → Right b h capacity
+    → Refuses (whole_log b h) (all_counts b h) capacity x → ReadsFile mark b capacity room r
+log_err mark b h capacity room r x i right t =
+    reads_err mark b capacity room r (opening.Log x) i (log_refused b h capacity right x t) (λ l. absurd (omega (arith, log_layer x, l)))
 
--- the log that was read
-abbrev pub log_of : List Span → List (List Entry) → ℕ → Log
-log_of fs ts used = record { fragments = fs; transactions = ts; used = used }
+-- the header is right, and the log was read into a room that holds no list and no name of one
+module _ (b : List ℕ) (h : Header) (capacity : ℕ) (fs : List Span) (cs : List Change) (n used : ℕ) (right : Right b h capacity) (r : LogRead b h capacity fs cs n (Ok used))
+    (old : List Row) (named : List Named) (none : old ≡ []) (empty : named ≡ []) where
+  abbrev log_read : Log
+  log_read = record { fragments = fs; transactions = r.0; used = used }
 
--- the header is right, and the log was read
-module _ (b : List ℕ) (h : Header) (capacity : ℕ) (fs : List Span) (cs : List Change) (n used : ℕ) (right : Right b h capacity) (r : LogRead b h capacity fs cs n (Ok used)) where
-  abbrev pub log_read : Log
-  log_read = log_of fs r.0 used
-
-  pub logged_of : Logged b h capacity log_read
+  logged_of : Logged b h capacity log_read
   logged_of = record { right = right; gives = r.1; room = r.4 }
 
-  pub log_holds : (rows : List Row) → rows ≡ [] → Holds log_read cs fs rows
-  log_holds rows e = holds_log b h capacity fs r.0 used cs rows r.2 e
+  -- what is answered for each log that the room holds
+  abbrev pub ForLogs : (Log → Type 0) → Type 0
+  ForLogs P = (log : Log) → Holds log cs fs old → named ≡ [] → P log
 
-  pub list_wrong : (e : InList) → lists_from 1024 b h log_read (named_first h) [] ≡ refused (list_told e) → opened_in capacity b ≡ refused (list_told e)
-  list_wrong e t = lists_refused b h capacity log_read (list_told e) logged_of t
+  for_log : (P : Log → Type 0) → ForLogs P → P log_read
+  for_log P a = a log_read (holds_log b h capacity fs r.0 used cs old r.2 none) empty
 
-  -- the lists were read too
-  module _ (rows : List Row) (all : List Span) (a : AllRead b h log_read rows all) where
-    pub walked : Walked b h log_read a.lists []
-    walked = walked_of b h capacity log_read a.lists logged_of a.gives
+  module _ (mark : ℕ) (room : Room) where
+    list_err : (y : Result Access OpenFault) (e : InList) → IsErrAnd y (λ z. z ≡ opening.List e) → opened_in capacity b ≡ refused (list_told e) → ReadsFile mark b capacity room y
+    list_err y e i t = reads_err mark b capacity room y (opening.List e) i t (λ l. absurd (omega (arith, list_layer e.fault e.list, l)))
 
-    pub filed : Filed log_read a.lists rows all
-    filed = record { rows_are = a.row; fragments_are = a.fragments }
+    -- reading the lists refuses the file
+    pub lists_err : (y : Result Access OpenFault) (e : InList) → IsErrAnd y (λ z. z ≡ opening.List e)
+        → ForLogs (λ log. lists_from 1024 b h log (named_first h) [] ≡ refused (list_told e)) → ReadsFile mark b capacity room y
+    lists_err y e i t = list_err y e i (lists_refused b h capacity log_read (list_told e) logged_of (for_log (λ log. lists_from 1024 b h log (named_first h) [] ≡ refused (list_told e)) t))
 
-    pub data_wrong : (e : InList) → told_by (all_data h log_read a.lists) ≡ Some (list_told e) → opened_in capacity b ≡ refused (list_told e)
-    data_wrong e t = data_refused b h capacity log_read a.lists (list_told e) logged_of a.gives t
+    -- the lists were read too, and their data is checked
+    module _ (read : ForLogs (λ log. AllRead b h log room.lists room.fragments)) where
+      all : AllRead b h log_read room.lists room.fragments
+      all = for_log (λ log. AllRead b h log room.lists room.fragments) read
 
-    -- and the data references are right
-    pub reads_as : (mark : ℕ) (room : Room) → vec_items room.lists ≡ rows → vec_items room.fragments ≡ all → vec_items room.counts.changes ≡ cs → room.counts.finished ≡ n
-        → told_by (all_data h log_read a.lists) ≡ None → ReadsAs mark b capacity room (record { mark = mark; header = h; used = used })
-    reads_as mark room x y c f t =
-        let opens = all_read b h capacity log_read a.lists logged_of a.gives t in
-        record {
-          section = record { header = h; log = log_read; lists = a.lists };
-          opens = opens;
-          fits = in_room b h capacity log_read logged_of ∙ opens;
-          keeps = record {
-            header = refl;
-            used = refl;
-            changes = c ∙ r.2;
-            finished = f ∙ r.3;
-            fragments = ap length (y ∙ a.fragments);
-            lists = ap length (x ∙ a.row) ∙ rows_number (length fs) a.lists;
-          };
-          marked = refl;
-          filed = record { rows_are = x ∙ a.row; fragments_are = y ∙ a.fragments };
-        }
+      filed : Filed log_read all.lists room.lists room.fragments
+      filed = record { rows_are = all.row; fragments_are = all.fragments }
+
+      abbrev pub ForLists : Option Fault → Type 0
+      ForLists t = (log : Log) (ls : List NodeList) → Walked b h log ls [] → Filed log ls room.lists room.fragments → told_by (all_data h log ls) ≡ t
+
+      for_lists : (t : Option Fault) → ForLists t → told_by (all_data h log_read all.lists) ≡ t
+      for_lists t d = d log_read all.lists (walked_of b h capacity log_read all.lists logged_of all.gives) filed
+
+      -- a data reference refuses the file
+      pub data_err : (y : Result Access OpenFault) (e : InList) → IsErrAnd y (λ z. z ≡ opening.List e) → ForLists (Some (list_told e)) → ReadsFile mark b capacity room y
+      data_err y e i d = list_err y e i (data_refused b h capacity log_read all.lists (list_told e) logged_of all.gives (for_lists (Some (list_told e)) d))
+
+      -- all is right
+      pub reads_as : vec_items room.counts.changes ≡ cs → room.counts.finished ≡ n → ForLists None → ReadsAs mark b capacity room (record { mark = mark; header = h; used = used })
+      reads_as c f d =
+          let opens = all_read b h capacity log_read all.lists logged_of all.gives (for_lists None d) in
+          record {
+            section = record { header = h; log = log_read; lists = all.lists };
+            opens = opens;
+            fits = in_room b h capacity log_read logged_of ∙ opens;
+            keeps = record {
+              header = refl;
+              used = refl;
+              changes = c ∙ r.2;
+              finished = f ∙ r.3;
+              fragments = ap length all.fragments;
+              lists = ap length all.row ∙ rows_length (length fs) all.lists;
+            };
+            marked = refl;
+            filed = filed;
+          }

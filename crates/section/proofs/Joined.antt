@@ -1,6 +1,5 @@
 -- The parts of opening, joined: what header, log, lists and data references answer is what opening answers.
-use Rattle.std.proofs.Common.{◌≡◌, ℕ, ◌<◌, ◌≤◌, true, false, ltb, List, [], ◌∷◌, length, get_or, Some, None, sym, refl, ap, ◌∙◌, subst, inl, inr, arith}
-use Rattle.std.proofs.lemmas.Bool.{cases_Bool}
+use Rattle.std.proofs.Common.{◌≡◌, ℕ, ◌<◌, ◌≤◌, List, [], ◌∷◌, length, get_or, Some, None, sym, refl, ap, ◌∙◌, subst, arith}
 use Rattle.std.proofs.lemmas.Bool.Decides.{nat_tests}
 use Rattle.model.specs.declared.types.Span.{Span}
 use Rattle.model.specs.declared.types.Entry.{Entry}
@@ -33,10 +32,7 @@ use Rattle.section.specs.OpenAnswers.{within_room, opened_in}
 -- checks that tell nothing are all passed
 clean_none : (cs : List Check) → told_by cs ≡ None → Clean cs
 clean_none [] e = tt
-clean_none (c ∷ cs) e = elim (cases_Bool c.0) [
-  | inl a ↦ absurd (let x : Some c.1 ≡ None = rw a at e in let z : ◌≡◌ {A = ℕ} 0 1 = cc in omega arith)
-  | inr a ↦ (a, clean_none cs (rw a at e))
-]
+clean_none (c ∷ cs) e = grind (arith, nat_tests, clean_none cs)
 
 module _ (b : List ℕ) (h : Header) (capacity : ℕ) where
   -- the header breaks a rule
@@ -45,22 +41,21 @@ module _ (b : List ℕ) (h : Header) (capacity : ℕ) where
   header_refused f t = unless_told (header_checks b) _ f t
 
   -- the header is right
-  pub record Right : Type 0 where
-    pub passes : told_by (header_checks b) ≡ None
-    pub is : h ≡ header_at b
+  abbrev pub Right : Type 0
+  Right = (told_by (header_checks b) ≡ None) × (h ≡ header_at b)
 
   headed : Right → Headed b h
-  headed r = subst (λ (x : Header). Headed b x) (sym r.is) (passes_headed b (clean_none (header_checks b) r.passes))
+  headed (passes, is) = subst (λ (x : Header). Headed b x) (sym is) (passes_headed b (clean_none (header_checks b) passes))
 
   opened_on : Right → opened_in capacity b ≡ within_room capacity (all_counts b h) (part_log b h)
   unfolding opened_in
-  opened_on r = unless_none (header_checks b) _ r.passes ∙ ap (λ (x : Header). within_room capacity (all_counts b x) (part_log b x)) (sym r.is)
+  opened_on (passes, is) = unless_none (header_checks b) _ passes ∙ ap (λ (x : Header). within_room capacity (all_counts b x) (part_log b x)) (sym is)
 
   pub roomy : {A : Type 0} (ps : List ℕ) (x : Outcome A) → length ps ≤ capacity → within_room capacity ps x ≡ x
-  roomy ps x l = let e : ltb capacity (length ps) ≡ false = grind (arith, nat_tests) in rw e
+  roomy ps x l = grind (arith, nat_tests)
 
   pub crowded : {A : Type 0} (ps : List ℕ) (p : ℕ) (x : Outcome A) → capacity < length ps → p ≡ get_or ps capacity 0 → within_room capacity ps x ≡ refused (fault 100 2 p 0)
-  crowded ps p x l q = let e : ltb capacity (length ps) ≡ true = grind (arith, nat_tests) in rw (e, q)
+  crowded ps p x l q = grind (arith, nat_tests)
 
   -- the log breaks a rule, or has more counts than there is room for
   log_breaks : Right → (f : Fault) → (whole_log b h ≡ refused f) × (length (all_counts b h) ≤ capacity) → opened_in capacity b ≡ refused f
@@ -118,4 +113,4 @@ module _ (b : List ℕ) (h : Header) (capacity : ℕ) where
   pub in_room : (l : Log) → Logged l → opened b ≡ opened_in capacity b
   unfolding opened opened_in
   in_room l d =
-      unless_none (header_checks b) _ d.right.passes ∙ ap (part_log b) (sym d.right.is) ∙ sym (opened_on d.right ∙ roomy (all_counts b h) (part_log b h) d.room)
+      unless_none (header_checks b) _ d.right.0 ∙ ap (part_log b) (sym d.right.1) ∙ sym (opened_on d.right ∙ roomy (all_counts b h) (part_log b h) d.room)

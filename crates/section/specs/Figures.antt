@@ -1,14 +1,14 @@
 -- The figures of a file.
-use Rattle.std.specs.Prelude.{ℕ, ◌+◌, ◌*◌, ◌/◌, List, [], ◌∷◌, length}
+use Rattle.std.specs.Prelude.{ℕ, ◌+◌, ◌*◌, ◌/◌, List, length}
+use Rattle.std.specs.List.{sum_by}
 use Rattle.model.specs.declared.types.Span.{Span}
 use Rattle.model.specs.declared.types.Header.{Header}
 use Rattle.model.specs.Section.{Section, fragments_of}
 use Rattle.section.specs.declared.access.Figures.{Figures}
 
 -- how many bytes ranges have together
-unfoldable pub sizes : List Span → ℕ
-sizes [] = 0
-sizes (f ∷ fs) = f.size + sizes fs
+abbrev pub sizes : List Span → ℕ
+sizes fs = sum_by (λ f. f.size) fs
 
 -- the whole percent of the file that is header and fragments, rounded down
 abbrev pub percent_of : List Span → ℕ → ℕ

@@ -13,8 +13,8 @@ pub record Keeps (s : Section) (room : Room) (a : Access) : Type 0 where
   pub used : a.used ≡ s.log.used
   pub changes : vec_items room.counts.changes ≡ numbered 1 s.log.transactions
   pub finished : room.counts.finished ≡ length s.log.transactions
-  pub fragments : length (vec_items room.fragments) ≡ length (fragments_of s)
-  pub lists : length (vec_items room.lists) ≡ length s.lists
+  pub fragments : length room.fragments ≡ length (fragments_of s)
+  pub lists : length room.lists ≡ length s.lists
 
 -- a shut file keeps nothing; an opened one keeps what opening finds in its bytes
 abbrev pub Sound : List ℕ → Room → Option Access → Type 0

@@ -1,5 +1,5 @@
 -- What open answers.
-use Rattle.std.specs.Prelude.{◌≡◌, ℕ, ◌<◌, ◌≤◌, false, cond, List, [], length, Some, None, Ok, Err, vec_items, Option, Result, nat_lt, slice_index}
+use Rattle.std.specs.Prelude.{◌≡◌, ℕ, ◌<◌, ◌≤◌, false, cond, List, [], length, Some, None, Ok, Err, Option, Result, nat_lt, slice_index}
 use Rattle.std.specs.List.{AllByRecursion}
 use Rattle.model.specs.Faults.{fault, Outcome, done, refused, unless, then}
 use Rattle.model.specs.Headers.{header_at}
@@ -68,9 +68,9 @@ pub record ReadsAs (mark : ℕ) (b : List ℕ) (capacity : ℕ) (room : Room) (a
   pub fits : opened b ≡ done section
   pub keeps : Keeps section room a
   pub marked : a.mark ≡ mark
-  pub filed : Filed section.log section.lists (vec_items room.lists) (vec_items room.fragments)
+  pub filed : Filed section.log section.lists room.lists room.fragments
 
 -- header, log, lists and data references are read, or this is the first broken rule; where it is the header's, no list is left
 abbrev pub ReadsFile : ℕ → List ℕ → ℕ → Room → Result Access OpenFault → Type 0
 ReadsFile mark b capacity room (Ok a) = ReadsAs mark b capacity room a
-ReadsFile mark b capacity room (Err e) = (opened_in capacity b ≡ refused (told e)) × ((told e).layer ≡ 1 → vec_items room.lists ≡ [])
+ReadsFile mark b capacity room (Err e) = (opened_in capacity b ≡ refused (told e)) × ((told e).layer ≡ 1 → room.lists ≡ [])

@@ -2,7 +2,7 @@
 use model::types::Header;
 
 /// The mark that the file was opened with, its header's fields, and how many entries of the log's last fragment are used.
-#[derive(Clone, Copy)]
+#[derive(Clone, Copy, PartialEq, Eq, Debug)]
 pub struct Access {
     pub mark: u64,
     pub header: Header,
@@ -10,7 +10,7 @@ pub struct Access {
 }
 
 /// The figures of an opened file: its count of finished transactions, its end, and how many lists and fragments it has.
-#[derive(Clone, Copy)]
+#[derive(Clone, Copy, PartialEq, Eq, Debug)]
 pub struct Figures {
     pub count: u32,
     pub end: u64,

@@ -36,7 +36,7 @@ impl<S: Store> File<S> {
     pub fn open(&mut self, mark: u64) -> Result<Figures, OpenFault>
         ensures answer { outcome result ≡ open_answer self.old.access self.old.room.counts.room (S.Store.bytes self.old.store) }
         ensures marks { Marks self.old.access mark (outcome result) self.new.access }
-        ensures lists { self.old.access ≡ None → ListsRows (opened_in self.old.room.counts.room (S.Store.bytes self.old.store)) self.new.room.lists.items }
+        ensures lists { self.old.access ≡ None → ListsRows (opened_in self.old.room.counts.room (S.Store.bytes self.old.store)) self.new.room.lists }
         ensures store { self.new.store ≡ self.old.store }
         ensures room { self.new.room.counts.room ≡ self.old.room.counts.room }
         ensures sound { Sound (S.Store.bytes self.old.store) self.old.room self.old.access → Sound (S.Store.bytes self.new.store) self.new.room self.new.access }
@@ -51,13 +51,13 @@ impl<S: Store> File<S> {
             end: access.header.end,
             lists: self.room.lists.len(),
             fragments: self.room.fragments.len(),
-            percent: percent(&self.room, access.header.end),
+            percent: percent(self.room.fragments.as_slice(), access.header.end),
         })
     }
 
     /// The lists of an opened file, in the order of opening.
     pub fn lists(&self) -> &[Row]
-        ensures { result.now ≡ self.now.room.lists.items }
+        ensures { result.now ≡ self.now.room.lists }
     {
         self.room.lists.as_slice()
     }

@@ -2,19 +2,19 @@
 ghost use Rattle.section.specs.OpenAnswers.{RoomSuffices, RoomWants, RoomAccepts};
 
 /// With room for the log's counts, opening answers what the rules say of the bytes.
+#[tactic(auto, using(crate::proofs::RoomLaws::room_suffices))]
 pub fn enough_room_changes_nothing()
     ensures { RoomSuffices }
-{
-}
+{}
 
 /// With less room, a file that its header does not refuse is refused for want of room.
+#[tactic(auto, using(crate::proofs::RoomLaws::room_wants))]
 pub fn too_little_room_is_told()
     ensures { RoomWants }
-{
-}
+{}
 
 /// Whatever the room, what is accepted is what the rules accept.
+#[tactic(auto, using(crate::proofs::RoomLaws::room_accepts))]
 pub fn what_is_accepted_holds_in_any_room()
     ensures { RoomAccepts }
-{
-}
+{}

@@ -8,6 +8,7 @@ use data_pass::check_data;
 use header_pass::check_header;
 use lists_pass::read_lists;
 use log_pass::read_log;
+use model::types::Span;
 use refusals::faults::OpenFault;
 use store::base::Store;
 use tables::room::Room;
@@ -28,7 +29,7 @@ pub(crate) fn read_file<S: Store>(
 
 // Reads its parts, one after the other, into a room that holds no list.
 fn read_parts<S: Store>(store: &S, mark: u64, room: &mut Room) -> Result<Access, OpenFault>
-    requires { room.old.lists.items ≡ [] }
+    requires { room.old.lists ≡ [] }
     ensures file { ReadsFile mark (S.Store.bytes store.now) room.old.counts.room room.new result }
     ensures room { room.new.counts.room ≡ room.old.counts.room }
 {
@@ -44,22 +45,22 @@ fn read_parts<S: Store>(store: &S, mark: u64, room: &mut Room) -> Result<Access,
 }
 
 // The whole percent of a file with this end that is header and fragments.
-pub(crate) fn percent(room: &Room, end: u64) -> u64
-    ensures { 1 ≤ end → sizes room.now.fragments.items < 2 ^ 56 → result ≡ percent_of room.now.fragments.items end }
+pub(crate) fn percent(fragments: &[Span], end: u64) -> u64
+    ensures { 1 ≤ end → sizes fragments.now < 2 ^ 56 → result ≡ percent_of fragments.now end }
 {
-    match used(room).saturating_mul(100).checked_div(end) {
-        Some(n) => n,
-        None => 0,
-    }
+    used(fragments)
+        .saturating_mul(100)
+        .checked_div(end)
+        .unwrap_or(0)
 }
 
 // How many bytes the header and the fragments have.
-fn used(room: &Room) -> u64
-    ensures { sizes room.now.fragments.items < 2 ^ 56 → result ≡ 1024 + sizes room.now.fragments.items }
+fn used(fragments: &[Span]) -> u64
+    ensures { sizes fragments.now < 2 ^ 56 → result ≡ 1024 + sizes fragments.now }
 {
     let mut all: u64 = 1024;
-    for i in 0..room.fragments.len() {
-        all = all.saturating_add(room.fragments[i].size);
+    for fragment in fragments {
+        all = all.saturating_add(fragment.size);
     }
     all
 }

@@ -1,10 +1,8 @@
 -- Laws of rows: pieces and writes, and the same of a row without its first bytes.
-use Rattle.std.specs.Prelude.{◌≡◌, ℕ, ◌+◌, ◌<◌, ◌≤◌, min, max, List, [], ◌∷◌, ◌++◌, length, take, drop, set, Ok, Err, Result, MatchResult, slice_index, slice_set, refl}
+use Rattle.std.specs.Prelude.{◌≡◌, ℕ, ◌+◌, ◌<◌, ◌≤◌, min, max, List, [], ◌∷◌, ◌++◌, length, take, drop, Ok, Err, Result, MatchResult, slice_index, refl}
 use Rattle.std.proofs.Common.{sym, ap, ◌∙◌, ⊎_elim, arith, rules}
-use Rattle.std.proofs.Math.Seq.{paste}
-use Rattle.std.proofs.lemmas.List.{same_lists, places, length-append, length-take, length-drop, get_or-set_same, get_or_default, get_or-take, get_or-drop, get_or_past}
-use Rattle.std.proofs.lemmas.Bool.{cases_eq, cases_lt}
-use Rattle.std.proofs.lemmas.List.Edits.{paste_all}
+use Rattle.std.proofs.lemmas.List.{same_lists, places, length-append, length-take, length-drop, get_or-take, get_or-drop, get_or_past}
+use Rattle.std.proofs.lemmas.Bool.{cases_lt}
 use Rattle.model.specs.Bytes.{Write, put, piece, written, applied}
 use Rattle.store.specs.declared.base.StoreFault.{StoreFault}
 use Rattle.store.specs.Rows.{Reads, Writes, if_done}
@@ -31,21 +29,6 @@ read_none row p n was z = same_lists _ _ (search (rules, places)) (λ i d g. gri
 pub written_none : (row : List ℕ) (p : ℕ) (new : List ℕ) → length new ≡ 0 → written row p new ≡ row
 unfolding written
 written_none row p new z = same_lists _ _ (search (rules, places)) (λ i d g. grind (arith, places))
-
--- one more byte of a read
-pub read_more : (row was xs : List ℕ) (p i x : ℕ) → p + i < length row → i < length was → xs ≡ piece row p i ++ drop i was → x ≡ slice_index row (p + i)
-    → slice_set xs i x ≡ piece row p (i + 1) ++ drop (i + 1) was
-unfolding piece
-read_more row was xs p i x a b e q =
-    ap (λ l. set l i x) e
-    ∙ same_lists _ _ (search (rules, places)) (λ k d h. let w = cases_eq k i in let r = get_or_default row (p + i) 0 d a in grind (arith, places, get_or-set_same))
-
--- the end of a loop that writes byte by byte
-pub pasted_front : (row after : List ℕ) (k p : ℕ) (new : List ℕ) (n m : ℕ) → after ≡ paste row p new n → n ≡ length new → k ≤ length row → p ≤ k
-    → p + length new ≤ length row → m ≡ max k (p + length new) → take m after ≡ written (take k row) p new
-unfolding written
-pasted_front row after k p new n m e q a b c f =
-    ap (take m) (e ∙ paste_all row p new n q ∙ ap (λ j. take p row ++ (new ++ drop (p + j) row)) q) ∙ written_front row k p new m a b c f
 
 -- what was written is read
 pub piece_written : (row : List ℕ) (p : ℕ) (new : List ℕ) → p ≤ length row → piece (written row p new) p (length new) ≡ new

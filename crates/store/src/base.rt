@@ -1,10 +1,12 @@
 //! What a store is, and what its refusals tell.
-ghost use Rattle.std.specs.Prelude.{◌≡◌, ℕ, ◌+◌, ◌^◌, ◌<◌, ◌≤◌, List, [], ◌++◌, length, Decides, ◌==◌, slice_index};
+ghost use Rattle.std.specs.Prelude.{◌≡◌, ℕ, ◌+◌, ◌^◌, ◌<◌, ◌≤◌, List, [], ◌++◌, length, Decides, slice_index};
 ghost use Rattle.model.specs.Bytes.{Write, put, applied};
 ghost use Rattle.store.specs.Refusals.{told};
 ghost use Rattle.store.specs.Rows.{Reads, Writes, if_done};
 
 use model::types::Fault;
+use std::error::Error;
+use std::fmt;
 
 /// Why a store, or the making of one, refuses.
 #[derive(Clone, Copy, PartialEq, Eq, Debug)]
@@ -17,12 +19,12 @@ pub enum StoreFault {
     Cover,
 }
 
-impl StoreFault {
-    /// What the refusal tells.
-    pub fn told(&self) -> Fault
-        ensures { result ≡ told self.now }
-    {
-        let number = match self {
+/// What the refusal tells.
+impl From<StoreFault> for Fault {
+    ghost from_gives = { λ f r. r ≡ told f };
+
+    fn from(f: StoreFault) -> Fault {
+        let number = match f {
             StoreFault::Range => 27,
             StoreFault::Map => 28,
             StoreFault::Cover => 29,
@@ -36,12 +38,30 @@ impl StoreFault {
     }
 }
 
+impl fmt::Display for StoreFault {
+    fn fmt<W: fmt::Write>(&self, f: &mut fmt::Formatter<W>) -> fmt::Result {
+        write!(f, "{}", Fault::from(*self))
+    }
+}
+
+impl Error for StoreFault {}
+
 /// What could not be made into a store is handed back, with the reason.
 #[derive(Drop)]
+#[derive_where(Debug)]
 pub struct NotMade<P> {
+    #[derive_where(skip)]
     pub parts: P,
     pub fault: StoreFault,
 }
+
+impl<P> fmt::Display for NotMade<P> {
+    fn fmt<W: fmt::Write>(&self, f: &mut fmt::Formatter<W>) -> fmt::Result {
+        write!(f, "{}", self.fault)
+    }
+}
+
+impl<P: Drop> Error for NotMade<P> {}
 
 /// A store for reading.
 pub trait Store {
@@ -88,16 +108,9 @@ pub trait SavingStore: Store {
     ghost lasts: { (s t : Self) (a : List Write) → wrote s a t → Self.Store.most t ≡ Self.Store.most s };
 }
 
-/// Whether a buffer is empty; and that each number in it is a byte, which is known only where it is lent as a slice.
-pub fn is_empty_buffer(v: &[u8]) -> bool
-    ensures value { result ≡ (length v.now == 0) }
-    ensures byte { (k : ℕ) → slice_index v.now k < 256 }
-{
-    v.is_empty()
-}
-
 /// Whether a write of `n` bytes at `place` begins in the row or at its end, and ends by the ceiling.
 /// And that a row after no writes is that row, which a refused write needs.
+#[tactic(auto, unfolding(model::specs::Bytes::applied))]
 pub fn has_room<S: Store>(store: &S, place: u64, n: usize) -> bool
     ensures test { Decides result ((place ≤ length (S.Store.bytes store.now)) × (place + n ≤ S.Store.most store.now)) }
     ensures none { S.Store.bytes store.now ≡ applied (S.Store.bytes store.now) [] }

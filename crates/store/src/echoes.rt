@@ -12,7 +12,8 @@ fn read_back<S: Store>(
     new: &[u8],
     buffer: &mut [u8],
 ) -> Result<(), StoreFault>
-    requires { (((row : List ℕ) × (place ≤ length row) × (S.Store.bytes store.now ≡ written row place new.now))) × (length new.now ≤ length buffer.old) }
+    requires stands { (row : List ℕ) × (place ≤ length row) × (S.Store.bytes store.now ≡ written row place new.now) }
+    requires room { length new.now ≤ length buffer.old }
     ensures { MatchResult result (λ _. buffer.new ≡ new.now ++ drop (length new.now) buffer.old) (λ _. ⊥) }
 {
     store.read(place, new.len(), buffer)
@@ -31,6 +32,5 @@ pub fn echo<S: SavingStore>(
         return Err(StoreFault::Range);
     }
     store.write(place, new)?;
-    read_back(store, place, new, buffer)?;
-    Ok(())
+    read_back(store, place, new, buffer)
 }

@@ -1,13 +1,14 @@
 //! One buffer with a length; its size is the ceiling.
-ghost use Rattle.std.specs.Prelude.{◌≡◌, ℕ, ◌+◌, ◌<◌, ◌≤◌, [], ◌∷◌, ◌++◌, length, take, drop, vec_len, MatchResult, slice_index, refl};
-ghost use Rattle.std.proofs.Common.{◌∙◌, rules, arith};
-ghost use Rattle.model.specs.Bytes.{put, piece, written, applied};
+ghost use Rattle.std.specs.Prelude.{◌≡◌, ℕ, ◌+◌, ◌<◌, ◌≤◌, ◌++◌, length, take, drop, vec_len, MatchResult, slice_index, refl};
+ghost use Rattle.std.proofs.Common.{◌∙◌, rules};
+ghost use Rattle.model.specs.Bytes.{piece, written, applied};
 ghost use Rattle.model.specs.Faults.{fault};
 ghost use Rattle.store.specs.Refusals.{told};
 ghost use Rattle.store.specs.RowsLemmas.{byte_take, applied_more};
 
-use crate::base::{NotMade, SavingStore, Store, StoreFault, has_room, is_empty_buffer};
+use crate::base::{NotMade, SavingStore, Store, StoreFault, has_room};
 
+// The buffer is lent whole: its size is the ceiling, and the bytes behind the length stay as they were lent.
 #[derive(Drop)]
 pub struct Flat {
     buffer: Vec<u8>,
@@ -27,7 +28,6 @@ impl Flat {
                 fault: StoreFault::Map,
             });
         }
-        let _ = is_empty_buffer(buffer.as_slice());
         Ok(Flat {
             buffer,
             len: len as usize,
@@ -35,27 +35,24 @@ impl Flat {
     }
 
     // Copies `n` bytes at `p` to the front of `into`.
+    #[tactic(auto, unfolding(model::specs::Bytes::piece))]
     fn copy_out(&self, p: usize, n: usize, into: &mut [u8])
-        requires { (p + n ≤ self.now.len) × (n ≤ length into.old) }
+        requires row { p + n ≤ self.now.len }
+        requires buffer { n ≤ length into.old }
         ensures { into.new ≡ piece (take self.now.len self.now.buffer.items) p n ++ drop n into.old }
     {
-        let from = self.buffer.as_slice();
-        let front = &mut into[0..n];
-        front.copy_from_slice(&from[p..p + n]);
+        into[..n].copy_from_slice(&self.buffer[p..p + n]);
     }
 
     // Puts bytes at `p`, and the end behind them where they pass it.
     fn paste(&mut self, p: usize, new: &[u8])
-        requires { (p ≤ self.old.len) × (p + length new.now ≤ vec_len self.old.buffer) }
+        requires start { p ≤ self.old.len }
+        requires end { p + length new.now ≤ vec_len self.old.buffer }
         ensures row { take self.new.len self.new.buffer.items ≡ written (take self.old.len self.old.buffer.items) p new.now }
-        ensures trail { take self.new.len self.new.buffer.items ≡ applied (take self.old.len self.old.buffer.items) (put p new.now ∷ []) }
         ensures size { vec_len self.new.buffer ≡ vec_len self.old.buffer }
     {
         let end = p + new.len();
-        let all = self.buffer.as_mut_slice();
-        let into = &mut all[p..end];
-        into.copy_from_slice(new);
-        let _ = is_empty_buffer(self.buffer.as_slice());
+        self.buffer[p..end].copy_from_slice(new);
         self.len = self.len.max(end);
     }
 }
@@ -65,9 +62,9 @@ impl Store for Flat {
 
     ghost most = { λ s. vec_len s.buffer };
 
-    ghost within = { first_of (Prim.search rules, Prim.grind (arith, Self.row.coded.inj)) };
+    ghost within = { Prim.search rules };
 
-    ghost fits = { first_of (Prim.search rules, Prim.grind (arith, Self.row.coded.inj)) };
+    ghost fits = { Prim.search rules };
 
     ghost byte = { λ s k. byte_take _ _ k (λ i h. s.byte i) };
 
@@ -80,6 +77,7 @@ impl Store for Flat {
     }
 
     fn read(&self, place: u64, n: usize, buffer: &mut [u8]) -> Result<(), StoreFault> {
+        // The test is each store's own: one over any store would call `len` through the trait inside its impl, which gets no proof.
         let p = place as usize;
         if p > self.len || n > self.len - p || n > buffer.len() {
             return Err(StoreFault::Range);
@@ -96,10 +94,11 @@ impl SavingStore for Flat {
 
     ghost more = { λ s t u a b p q. (applied_more _ _ _ a b p.0 q.0, q.1 ∙ p.1) };
 
-    ghost stands = { first_of (Prim.search rules, Prim.grind (arith, Self.row.coded.inj)) };
+    ghost stands = { λ s t a made. made.0 };
 
-    ghost lasts = { first_of (Prim.search rules, Prim.grind (arith, Self.row.coded.inj)) };
+    ghost lasts = { λ s t a made. made.1 };
 
+    #[tactic(auto, unfolding(model::specs::Bytes::applied))]
     fn write(&mut self, place: u64, new: &[u8]) -> Result<(), StoreFault> {
         if !has_room(self, place, new.len()) {
             return Err(StoreFault::Range);

@@ -19,7 +19,7 @@ mod tests {
             place: 0,
             list: 0,
         };
-        assert_eq!(rt; fault.told(), told);
+        assert_eq!(rt; Fault::from(fault), told);
         Ok(())
     }
 
@@ -27,13 +27,6 @@ mod tests {
         match call {
             Ok(()) => Err(Fail::new("done")),
             Err(fault) => tells(rt, fault, 27),
-        }
-    }
-
-    fn made<T, P: Drop>(new: Result<T, NotMade<P>>) -> Result<T, Fail> {
-        match new {
-            Ok(store) => Ok(store),
-            Err(_) => Err(Fail::new("not made")),
         }
     }
 
@@ -143,7 +136,7 @@ mod tests {
         let buffer = vec![in rt.alloc(); 0u8; 16]?;
         let buffer = not_made(&rt, Flat::new(buffer, 17), 28)?;
         assert_eq!(rt; buffer.len(), 16);
-        let mut s = made(Flat::new(buffer, 0))?;
+        let mut s = Flat::new(buffer, 0)?;
         tried(&rt, &mut s)?;
         assert_eq!(rt; s.ceiling(), 16);
         Ok(())
@@ -153,7 +146,7 @@ mod tests {
     fn card(rt: HostRuntime) -> Result<(), Fail> {
         let buffer = vec![in rt.alloc(); 0u8; 2048]?;
         let blocks = vec![in rt.alloc(); 3u32, 1]?;
-        let mut s = made(Card::new(buffer, blocks, 0))?;
+        let mut s = Card::new(buffer, blocks, 0)?;
         tried(&rt, &mut s)?;
         assert_eq!(rt; s.ceiling(), 1024);
         Ok(())
@@ -182,7 +175,7 @@ mod tests {
         let buffer = without(&rt, buffer, &[0, 2], 1025)?;
         assert_eq!(rt; buffer.len(), 2047);
         let blocks = [0u32, 2].to_vec(rt.alloc())?;
-        let s = made(Card::new(buffer, blocks, 1024))?;
+        let s = Card::new(buffer, blocks, 1024)?;
         assert_eq!(rt; s.len(), 1024);
         Ok(())
     }
@@ -190,23 +183,55 @@ mod tests {
     #[test]
     fn long_maps(rt: HostRuntime) -> Result<(), Fail> {
         let buffer = vec![in rt.alloc(); 0u8; 66048]?;
-        let mut blocks = Vec::new(rt.alloc());
-        for b in 0..129u32 {
-            blocks.push(b)?;
-        }
+        let blocks = (0..129u32).collect::<Vec<u32>>(rt.alloc())?;
         let (buffer, mut blocks) = not_made(&rt, Card::new(buffer, blocks, 0), 28)?;
         let _ = blocks.pop();
-        let s = made(Card::new(buffer, blocks, 65536))?;
+        let s = Card::new(buffer, blocks, 65536)?;
         assert_eq!(rt; s.len(), 65536);
         Ok(())
+    }
+
+    // A write and its read over three blocks, which do not lie in the order of the map.
+    #[test]
+    fn over_blocks(rt: HostRuntime) -> Result<(), Fail> {
+        let buffer = vec![in rt.alloc(); 0u8; 2048]?;
+        let blocks = vec![in rt.alloc(); 3u32, 1, 0]?;
+        let mut s = Card::new(buffer, blocks, 1536)?;
+        let new = (0..1100u32)
+            .map(|i| (i % 251) as u8)
+            .collect::<Vec<u8>>(rt.alloc())?;
+        let mut back = vec![in rt.alloc(); 0u8; 1100]?;
+        echo(&mut s, 300, new.as_slice(), back.as_mut_slice())?;
+        assert_eq!(rt; back.as_slice(), new.as_slice());
+        let mut edge = [0u8; 4];
+        s.read(510, 4, &mut edge)?;
+        assert_eq!(rt; edge, [210, 211, 212, 213]);
+        s.read(1398, 4, &mut edge)?;
+        assert_eq!(rt; edge, [94, 95, 0, 0]);
+        Ok(())
+    }
+
+    #[test]
+    fn prints(rt: HostRuntime) -> Result<(), Fail> {
+        let text = format!(in rt.alloc(); "{}", StoreFault::Range)?;
+        assert_eq!(rt; text.as_str(), "27 range layer 6 place 0 list 0");
+        let buffer = vec![in rt.alloc(); 0u8; 16]?;
+        match Flat::new(buffer, 17) {
+            Ok(_) => Err(Fail::new("made")),
+            Err(refused) => {
+                let text = format!(in rt.alloc(); "{refused}")?;
+                assert_eq!(rt; text.as_str(), "28 map layer 6 place 0 list 0");
+                Ok(())
+            }
+        }
     }
 
     #[test]
     fn covered_card(rt: HostRuntime) -> Result<(), Fail> {
         let buffer = vec![in rt.alloc(); 0u8; 4096]?;
         let blocks = vec![in rt.alloc(); 7u32, 0, 4]?;
-        let card = made(Card::new(buffer, blocks, 512))?;
-        let mut s = made(Cover::new(card, 1))?;
+        let card = Card::new(buffer, blocks, 512)?;
+        let mut s = Cover::new(card, 1)?;
         tried(&rt, &mut s)?;
         assert_eq!(rt; s.ceiling(), 1024);
         Ok(())
@@ -215,16 +240,16 @@ mod tests {
     #[test]
     fn covers(rt: HostRuntime) -> Result<(), Fail> {
         let buffer = vec![in rt.alloc(); 0u8; 5120]?;
-        let flat = made(Flat::new(buffer, 4614))?;
+        let flat = Flat::new(buffer, 4614)?;
         let flat = not_made(&rt, Cover::new(flat, 9), 29)?;
         let flat = not_made(&rt, Cover::new(flat, u64::MAX), 29)?;
-        let eight = made(Cover::new(flat, 8))?;
+        let eight = Cover::new(flat, 8)?;
         // 518 bytes are left
         let eight = not_made(&rt, Cover::new(eight, 2), 29)?;
-        let mut nine = made(Cover::new(eight, 1))?;
+        let mut nine = Cover::new(eight, 1)?;
         assert_eq!(rt; nine.len(), 6);
         tried(&rt, &mut nine)?;
-        let none = made(Cover::new(nine, 0))?;
+        let none = Cover::new(nine, 0)?;
         assert_eq!(rt; none.len(), 512);
         assert_eq!(rt; none.ceiling(), 512);
         Ok(())

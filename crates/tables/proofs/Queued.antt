@@ -1,21 +1,18 @@
 -- One name more in a queue that holds the first 1,025 of all.
-use Rattle.std.proofs.Common.{◌≡◌, ℕ, ◌<◌, ◌≤◌, Bool, true, false, cond, List, [], ◌∷◌, ◌++◌, map, length, take, sym, ap, ◌∙◌, append_assoc, append-nil, arith}
+use Rattle.std.proofs.Common.{◌≡◌, ℕ, Bool, true, false, cond, ltb, List, [], ◌∷◌, ◌++◌, length, take, min, sym, ap, ◌∙◌, append_assoc, append-nil, arith}
+use Rattle.std.proofs.lemmas.Grind.{common_steps}
+use Rattle.std.proofs.lemmas.Bool.Decides.{nat_tests}
 use Rattle.std.proofs.lemmas.List.{map-append, length-map, length-take, length-append, take-append-le, take_all}
 use Rattle.model.specs.declared.types.Span.{Span}
-use Rattle.tables.specs.declared.room.Named.{Named}
+use Rattle.tables.specs.declared.queue.Named.{Named}
 use Rattle.tables.specs.Queues.{pair_of, Names}
 
-pub name_added : (q after : List Named) (x : Named) → length q < 1025 → after ≡ q ++ (x ∷ []) → Names q (pair_of x ∷ []) after
-name_added q after x l e all h =
-    let n : length all < 1025 = omega (arith, ap length h, length-map q pair_of, length-take 1025 all) in
-    let a : take 1025 all ≡ all = take_all 1025 all (omega arith) in
-    let w : take 1025 (all ++ (pair_of x ∷ [])) ≡ all ++ (pair_of x ∷ []) = take_all 1025 (all ++ (pair_of x ∷ [])) (omega (arith, length-append all (pair_of x ∷ []))) in
-    ap (map pair_of) e ∙ map-append pair_of q (x ∷ []) ∙ ap (λ ys. ys ++ (pair_of x ∷ [])) (h ∙ a) ∙ sym w
-
-pub name_left : (q after : List Named) (x : Named) → 1025 ≤ length q → after ≡ q → Names q (pair_of x ∷ []) after
-name_left q after x l e all h =
-    let n : 1025 ≤ length all = omega (arith, ap length h, length-map q pair_of, length-take 1025 all) in
-    ap (map pair_of) e ∙ h ∙ sym (take-append-le 1025 all (pair_of x ∷ []) n)
+-- a name that is pushed where there is room for it
+pub name_pushed : (q after : List Named) (x : Named) (n : ℕ) (b : Bool) → n ≡ length q → b ≡ ltb n 1025 → after ≡ cond b (q ++ (x ∷ [])) q → Names q (pair_of x ∷ []) after
+name_pushed q after x n b l t e all h =
+    let more = pair_of x ∷ [] in
+    let k : length q ≡ min 1025 (length all) = simp (length-map, length-take) at (ap length h) in
+    grind (arith, nat_tests, common_steps, map-append pair_of q (x ∷ []), length-append all more, take_all 1025 all, take_all 1025 (all ++ more), take-append-le 1025 all more)
 
 pub names_none : (q : List Named) → Names q [] q
 names_none q all h = h ∙ ap (take 1025) (sym (append-nil all))

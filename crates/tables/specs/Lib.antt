@@ -1,4 +1,5 @@
 pub mod Kinds
+pub mod Misplacings
 pub mod Places
 pub mod Queues
 pub mod Rows

@@ -3,7 +3,7 @@ use Rattle.std.specs.Prelude.{◌≡◌, ℕ, ◌+◌, cond, ◌&&◌, List, [],
 use Rattle.model.specs.declared.types.Span.{Span}
 use Rattle.model.specs.References.{present}
 use Rattle.model.specs.Nodes.{Node, field_of, referring}
-use Rattle.tables.specs.declared.room.Named.{Named}
+use Rattle.tables.specs.declared.queue.Named.{Named}
 
 -- a name in the definitions' form: the place of the reference's field, and the reference
 abbrev pub pair_of : Named → ℕ × Span

@@ -1,5 +1,6 @@
 -- The lists of an opened file as rows.
-use Rattle.std.specs.Prelude.{◌≡◌, ℕ, ◌+◌, Bool, false, ◌||◌, List, [], ◌∷◌, length, ◌==◌}
+use Rattle.std.specs.Prelude.{◌≡◌, ℕ, ◌+◌, Bool, List, [], ◌∷◌, length, ◌==◌}
+use Rattle.std.specs.List.{list_any}
 use Rattle.model.specs.Section.{NodeList}
 use Rattle.model.specs.OpenedLists.{taken}
 use Rattle.tables.specs.declared.room.Row.{Row}
@@ -14,8 +15,7 @@ rows_of at (l ∷ ls) = row_of at l ∷ rows_of (at + length l.fragments) ls
 
 -- an ID is that of a row
 abbrev pub row_taken : ℕ → List Row → Bool
-row_taken id [] = false
-row_taken id (r ∷ rs) = r.id == id || row_taken id rs
+row_taken id rows = list_any (λ r. r.id == id) rows
 
 -- the lists have the IDs of the rows
 abbrev pub SameIds : List NodeList → List Row → Type 0

@@ -1,15 +1,13 @@
 //! A section laid out in three kinds of store, read back, opened and listed; and one refusal of each layer.
 #![tactic(auto)]
 
-use anyhow::anyhow;
 use card_store::Card;
 use cover_store::Cover;
 use lines::listed;
-use lines::words::word;
-use model::types::Fault;
 use sample::{END, lay_out};
 use section::files::File;
-use store::base::{SavingStore, Store, StoreFault};
+use std::fmt;
+use store::base::{SavingStore, Store};
 use store::flat_store::Flat;
 use tables::room::Room;
 
@@ -21,39 +19,20 @@ const MAP: [u32; 10] = [7, 2, 13, 5, 11, 0, 15, 9, 4, 1];
 // How many of its first bytes a listing is compared by.
 const WHOLE: usize = END as usize;
 
+// The first mark of the second list.
+const BRANCH_MARK: u64 = 3072;
+
 fn flat(rt: &HostRuntime, len: u64) -> anyhow::Result<Flat> {
-    match Flat::new(vec![in rt.alloc(); 0u8; 8192]?, len) {
-        Ok(store) => Ok(store),
-        Err(refused) => Err(words_of(refused.fault)),
-    }
+    Ok(Flat::new(vec![in rt.alloc(); 0u8; 8192]?, len)?)
 }
 
 fn card(rt: &HostRuntime, len: u64) -> anyhow::Result<Card> {
     let blocks = MAP.to_vec(rt.alloc())?;
-    match Card::new(vec![in rt.alloc(); 0u8; 8192]?, blocks, len) {
-        Ok(store) => Ok(store),
-        Err(refused) => Err(words_of(refused.fault)),
-    }
+    Ok(Card::new(vec![in rt.alloc(); 0u8; 8192]?, blocks, len)?)
 }
 
 fn covered(rt: &HostRuntime) -> anyhow::Result<Cover<Card>> {
-    match Cover::new(card(rt, END + 512)?, 1) {
-        Ok(store) => Ok(store),
-        Err(refused) => Err(words_of(refused.fault)),
-    }
-}
-
-fn words_of(fault: StoreFault) -> anyhow::Error {
-    anyhow!(word(fault.told().number))
-}
-
-// The first bytes of a store.
-fn read_back<S: Store>(rt: &HostRuntime, store: &S) -> anyhow::Result<Vec<u8>> {
-    let mut bytes = vec![in rt.alloc(); 0u8; WHOLE]?;
-    match store.read(0, WHOLE, bytes.as_mut_slice()) {
-        Ok(()) => Ok(bytes),
-        Err(fault) => Err(words_of(fault)),
-    }
+    Ok(Cover::new(card(rt, END + 512)?, 1)?)
 }
 
 // Lays the sample out, reads it back and lists it; answers the bytes and the listing.
@@ -62,45 +41,37 @@ fn shown<S: SavingStore + Drop>(
     name: &str,
     mut store: S,
 ) -> anyhow::Result<(Vec<u8>, String)> {
-    if let Err(fault) = lay_out(&mut store) {
-        return Err(words_of(fault));
-    }
-    let bytes = read_back(rt, &store)?;
-    let len = bytes.len();
-    println!(rt; "{name}: laid out and read back, {len} bytes")?;
+    lay_out(&mut store)?;
+    let mut bytes = vec![in rt.alloc(); 0u8; WHOLE]?;
+    store.read(0, WHOLE, bytes.as_mut_slice())?;
+    println!(rt; "{name}: laid out and read back, {WHOLE} bytes")?;
     let mut file = File::new(store, Room::new(rt.alloc(), 64)?);
     let text = listed(rt.alloc(), &mut file, 1)?;
     println!(rt; "{name}: opened and listed")?;
     rt.print(text.as_str())?;
-    if let Err(fault) = file.open(2) {
-        refusal(rt, "open again", fault.told())?;
-    }
+    tell(rt, "open again", file.open(2))?;
     Ok((bytes, text))
 }
 
-fn refusal(rt: &HostRuntime, action: &str, fault: Fault) -> anyhow::Result<()> {
-    let Fault {
-        number,
-        layer,
-        place,
-        list,
-    } = fault;
-    let name = word(number);
-    println!(rt; "{action}: refused {number} {name} layer {layer} place {place} list {list}")?;
+// Tells why an action was refused, if it was.
+fn tell<T: Drop, E: fmt::Display + Drop>(
+    rt: &HostRuntime,
+    action: &str,
+    done: Result<T, E>,
+) -> anyhow::Result<()> {
+    if let Err(refused) = done {
+        println!(rt; "{action}: refused {refused}")?;
+    }
     Ok(())
 }
 
 // Opens a flat store whose byte at `place` was changed, and tells the refusal.
 fn damaged(rt: &HostRuntime, action: &str, place: u64) -> anyhow::Result<()> {
     let mut store = flat(rt, END)?;
-    if lay_out(&mut store).is_err() || store.write(place, &[0xFF]).is_err() {
-        return Err(anyhow!("the sample does not fit"));
-    }
+    lay_out(&mut store)?;
+    store.write(place, &[0xFF])?;
     let mut file = File::new(store, Room::new(rt.alloc(), 64)?);
-    if let Err(fault) = file.open(1) {
-        refusal(rt, action, fault.told())?;
-    }
-    Ok(())
+    tell(rt, action, file.open(1))
 }
 
 // One refusal of each layer: header, log, lists, and stores.
@@ -109,25 +80,15 @@ fn refusals(rt: &HostRuntime) -> anyhow::Result<()> {
     damaged(rt, "open a file with a wrong sum", 2068)?;
     damaged(rt, "open a file with a wrong mark", BRANCH_MARK)?;
     let store = flat(rt, END)?;
-    let mut byte = [0u8; 1];
-    if let Err(fault) = store.read(END, 1, &mut byte) {
-        refusal(rt, "read past the end", fault.told())?;
-    }
-    if let Err(refused) = Card::new(
+    tell(rt, "read past the end", store.read(END, 1, &mut [0u8; 1]))?;
+    let twice = Card::new(
         vec![in rt.alloc(); 0u8; 1024]?,
         vec![in rt.alloc(); 1u32, 1]?,
         0,
-    ) {
-        refusal(rt, "a card with one block twice", refused.fault.told())?;
-    }
-    if let Err(refused) = Cover::new(store, 9) {
-        refusal(rt, "a cover of nine blocks", refused.fault.told())?;
-    }
-    Ok(())
+    );
+    tell(rt, "a card with one block twice", twice)?;
+    tell(rt, "a cover of nine blocks", Cover::new(store, 9))
 }
-
-// The first mark of the second list.
-const BRANCH_MARK: u64 = 3072;
 
 fn run(rt: &HostRuntime) -> anyhow::Result<()> {
     let (first_bytes, first) = shown(rt, "flat", flat(rt, END)?)?;

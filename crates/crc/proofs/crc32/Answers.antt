@@ -1,7 +1,7 @@
 -- The three calls in a row are the check of the slice.
-use Rattle.std.proofs.Common.{rules}
-use Rattle.crc.proofs.Rows.{crc_of_is}
+use Rattle.model.specs.Crc.{crc_of}
 use Rattle.crc.proofs.crc32.Goals as goal
 
 pub returns : goal.returns
-returns c = search (rules, crc_of_is)
+unfolding crc_of
+returns c = cc

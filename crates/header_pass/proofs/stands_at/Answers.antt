@@ -7,4 +7,4 @@ use Rattle.header_pass.proofs.stands_at.Goals as goal
 use Rattle.std.proofs.lemmas.Bool.Decides.{Decides-eqb}
 
 pub returns : goal.returns
-returns g c = λ h. row_decided _ _ c.eq.result (slice_eq-Decides Decides-eqb _ _ c.eq.result c.eq.ensures) ∙ ap (λ xs. same_row xs c.args.bytes.now) (piece_window _ _ _ 16 c.fetch.ensures (omega (arith, c.fetch.auto.buffer)) h)
+returns g c = λ h. row_decided _ _ c.eq.result (slice_eq-Decides Decides-eqb _ _ c.eq.result c.eq.ensures) ∙ ap (λ xs. same_row xs c.args.bytes.now) (piece_window _ _ _ 16 c.bytes_at.ensures (omega arith) h)

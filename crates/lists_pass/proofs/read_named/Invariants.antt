@@ -9,7 +9,7 @@ use Rattle.lists_pass.proofs.read_named.Given as goal
 abbrev pub invariant-loop-next : goal.invariant-loop-next
 invariant-loop-next g l =
     (l.room.counts ≡ l.initial.room.counts)
-    × (length (vec_items l.room.lists) ≤ 1024 ⊎ (l.next ≡ 0))
-    × ((log : Log) → Holds log (vec_items l.initial.room.counts.changes) (vec_items l.initial.room.fragments) (vec_items l.initial.room.lists)
-    → Held (vec_items l.initial.room.queue) (named_first l.header)
-    → Opening (g.S.Store.bytes l.store) l.header log l.next (vec_items l.room.lists) (vec_items l.room.fragments) (vec_items l.room.queue))
+    × (length l.room.lists ≤ 1024 ⊎ (l.next ≡ 0))
+    × ((log : Log) → Holds log (vec_items l.initial.room.counts.changes) l.initial.room.fragments l.initial.room.lists
+    → Held l.initial.room.queue (named_first l.checked.header)
+    → Opening (g.S.Store.bytes l.store) l.checked.header log l.next l.room.lists l.room.fragments l.room.queue)

@@ -1,75 +1,40 @@
-use Rattle.std.proofs.Common.{◌+◌, ◌<◌, [], ◌∷◌, length, vec_items, vec_len, refl, ap, ◌∙◌, arith}
+use Rattle.std.proofs.Common.{◌≡◌, ℕ, ◌<◌, Bool, true, false, cond, ltb, List, [], ◌∷◌, ◌++◌, length, refl, ap, arith}
+use Rattle.std.proofs.lemmas.Bool.Decides.{nat_tests}
 use Rattle.std.proofs.lemmas.List.{length-append}
-use Rattle.lists_pass.proofs.ListWalks.{listing_none, listing_more, listing_whole, listing_bad, listing_refused, listing_at, walked_at, rests_err, listing_few, taken_first}
+use Rattle.tables.specs.declared.room.Row.{Row}
+use Rattle.lists_pass.proofs.ListWalks.{listing_more, listing_whole, listing_bad, listing_refused, handed_on, taken_first}
 use Rattle.lists_pass.proofs.read_rest.Goals as goal
 
-pub loop-sequence-init : goal.loop-sequence-init
-loop-sequence-init g c = (omega arith, c.requires.least, c.requires.inside, c.requires.few, refl, refl, listing_none _ _ _ c.args.begun _ _ c.requires.held)
+-- a row is pushed, since there is room
+pushed_row : (n : ℕ) (rows after : List Row) (row : Row) (b : Bool) → b ≡ ltb n 1024 → n < 1024 → after ≡ cond b (rows ++ (row ∷ [])) rows → after ≡ rows ++ (row ∷ [])
+pushed_row n rows after row true e l s = s
+pushed_row n rows after row false e l s = grind (arith, nat_tests)
 
-pub returns-in_err-part : goal.returns-in_err-part
-returns-in_err-part g c =
-    let i = c.loop-sequence.invariant in
-    record {
-      answer = rests_err _ _ _ c.args.begun _ _ _ _ _ c.from_residual.result c.in_err-part.field-0.0 c.from_residual.ensures.1
-          (listing_bad _ _ _ c.args.begun c.loop-sequence.fragment _ _ _ _ _ _ i.6 c.in_err-part.ensures.answer);
-      counts = c.read_nodes.ensures.counts ∙ i.4;
-    }
+pub returns-in_err-part-clause-answer : goal.returns-in_err-part-clause-answer
+returns-in_err-part-clause-answer g c =
+    rw (handed_on c.from_residual.result _ c.from_residual.ensures.1) (listing_bad c.loop-sequence.invariant.4 c.in_err-part.ensures.answer)
 
-pub returns-then-nodes-begun : goal.returns-then-nodes-begun
-returns-then-nodes-begun g c =
+pub returns-then-nodes-begun-clause-answer : goal.returns-then-nodes-begun-clause-answer
+returns-then-nodes-begun-clause-answer g c =
     let i = c.loop-sequence.invariant in
-    let r = c.read_nodes.ensures in
-    let a = c.add_list.ensures in
-    record {
-      answer = listing_whole _ _ _ c.args.begun c.loop-sequence.fragment _ _ _ c.in_ok-part.part.free _ _ _ _ _ _ _ _
-          (listing_at _ _ _ c.args.begun c.loop-sequence.fragment _ _ _ _ _ _ (ap vec_items (a.fragments ∙ r.fragments)) i.6)
-          (walked_at _ _ _ c.loop-sequence.fragment _ _ _ _ _ (ap vec_items a.queue) c.in_ok-part.ensures.answer)
-          c.if-nodes-begun.true (taken_first _ _ _ c.requires.held) (a.lists (omega (arith, ap vec_len (r.lists ∙ i.5), c.requires.room))) (ap vec_items (r.lists ∙ i.5)) refl;
-      counts = a.counts ∙ r.counts ∙ i.4;
-    }
+    let room : length c.loop-sequence.room.lists < 1024 = omega (arith, ap length i.3, c.requires.room) in
+    listing_whole i.4 c.in_ok-part.ensures.answer (omega arith) (taken_first _ _ _ c.requires.held)
+    (pushed_row _ _ _ _ _ c.push.ensures.room room c.push.ensures.items) i.3 refl
 
-pub returns-in_err-fragment : goal.returns-in_err-fragment
-returns-in_err-fragment g c =
-    let i = c.loop-sequence.invariant in
-    let r = c.read_nodes.ensures in
+pub returns-in_err-fragment-clause-answer : goal.returns-in_err-fragment-clause-answer
+returns-in_err-fragment-clause-answer g c =
     let few = c.in_ok-part.ensures.few in
-    let l : c.loop-sequence.nodes + c.in_ok-part.part.nodes < c.args.begun.count = omega arith in
-    record {
-      answer = rests_err _ _ _ c.args.begun _ _ _ _ _ c.from_residual-in_err-fragment.result c.in_err-fragment.field-0.0 c.from_residual-in_err-fragment.ensures.1
-          (listing_refused _ _ _ c.args.begun c.loop-sequence.fragment _ _ _ _ _ _ _ _ _
-          (listing_at _ _ _ c.args.begun c.loop-sequence.fragment _ _ _ _ _ _ (ap vec_items r.fragments) i.6)
-          c.in_ok-part.ensures.answer l c.in_err-fragment.ensures.answer);
-      counts = c.next_fragment.ensures.counts ∙ r.counts ∙ i.4;
-    }
+    rw (handed_on c.from_residual-in_err-fragment.result _ c.from_residual-in_err-fragment.ensures.1)
+    (listing_refused c.loop-sequence.invariant.4 c.in_ok-part.ensures.answer (omega arith) c.in_err-fragment.ensures.answer)
 
 pub loop-sequence-preserved : goal.loop-sequence-preserved
 loop-sequence-preserved g c =
     let i = c.loop-sequence.invariant in
-    let r = c.read_nodes.ensures in
-    let n = c.next_fragment.ensures in
     let few = c.in_ok-part.ensures.few in
-    let next = c.in_ok-fragment.ensures.next in
-    let l : c.loop-sequence.nodes + c.in_ok-part.part.nodes < c.args.begun.count = omega arith in (
+    let (is, room, more) = c.in_ok-fragment.ensures.next in (
       omega arith,
-      next.1,
-      next.2,
-      omega (
-        arith,
-        ap length next.4,
-        length-append (vec_items c.read_nodes.new.room.fragments) (c.in_ok-fragment.fragment ∷ []),
-        c.read_nodes.new.room.fragments.ok.0,
-        c.next_fragment.new.room.fragments.ok.0,
-        next.3,
-      ),
-      n.counts ∙ r.counts ∙ i.4,
-      n.lists ∙ r.lists ∙ i.5,
-      listing_more _ _ _ c.args.begun c.loop-sequence.fragment _ _ _ _ _ _ _ _ c.in_ok-fragment.fragment _
-          (listing_at _ _ _ c.args.begun c.loop-sequence.fragment _ _ _ _ _ _ (ap vec_items r.fragments) i.6)
-          (walked_at _ _ _ c.loop-sequence.fragment _ _ _ _ _ (ap vec_items n.queue) c.in_ok-part.ensures.answer)
-          l next.0 c.in_ok-fragment.ensures.answer next.4,
+      omega (arith, ap length more, length-append c.loop-sequence.room.fragments (c.in_ok-fragment.fragment.span ∷ []), room),
+      i.2,
+      i.3,
+      listing_more i.4 c.in_ok-part.ensures.answer (omega arith) is c.in_ok-fragment.ensures.answer more,
     )
-
-pub returns : goal.returns
-returns g c =
-    let i = c.loop-sequence.invariant in
-    absurd (listing_few _ _ _ c.args.begun c.loop-sequence.fragment _ _ _ _ _ i.6 (omega arith) (omega arith))

@@ -1,18 +1,13 @@
--- The starts rise, so what holds at `middle` holds of all before it, or of all from it on.
-use Rattle.std.proofs.Common.{ap, arith}
-use Rattle.std.proofs.lemmas.List.{get_or_read_under}
-use Rattle.model.specs.References.{span}
-use Rattle.ranges.proofs.Order.{below_step, above_step}
+-- The ranges are in the order of their starts, so the search finds its place.
+use Rattle.std.proofs.Common.{ltb, arith, rules}
+use Rattle.std.proofs.lemmas.List.Sorted.{IsPartitionPoint-from_clause}
+use Rattle.std.proofs.lemmas.Bool.Decides.{nat_tests}
+use Rattle.ranges.proofs.Order.{parted}
 use Rattle.ranges.proofs.Ranges.place_of.Goals as goal
 
-pub loop-low-preserved-then-index-start : goal.loop-low-preserved-then-index-start
-loop-low-preserved-then-index-start c =
+pub returns-clause-parts : goal.returns-clause-parts
+returns-clause-parts c =
     let d = c.args.self.now in
-    let e = ap (λ x. x.start) (get_or_read_under _ _ _ _ (span 0 0) c.index.ensures (omega arith) d.spans.ok.0) in
-    (omega arith, omega arith, below_step _ _ d.some d.ordered _ _ (omega arith) (omega arith), c.loop-low.invariant.3)
-
-pub loop-low-preserved : goal.loop-low-preserved
-loop-low-preserved c =
-    let d = c.args.self.now in
-    let e = ap (λ x. x.start) (get_or_read_under _ _ _ _ (span 0 0) c.index.ensures (omega arith) d.spans.ok.0) in
-    (omega arith, omega arith, c.loop-low.invariant.2, above_step _ _ d.some d.ordered _ _ (omega arith))
+    let found = IsPartitionPoint-from_clause (λ s. ltb s.start c.args.start) _ _ (rw c.as_slice.ensures.values at c.partition_point.ensures.partitioned)
+    (parted _ d.some d.ordered c.args.start) (λ a r f k. search rules) in
+    (λ k e h l. let below = found.0 k e h l in grind (arith, nat_tests), λ k e h l. let above = found.1 k e h l in grind (arith, nat_tests))

@@ -1,22 +1,9 @@
 -- With no changes each list's newest is none.
-use Rattle.std.proofs.Common.{arith}
 use Rattle.counts.proofs.Newest.{newest_none, most_none}
 use Rattle.counts.proofs.table.Counts.clear.Goals as goal
 
-pub invariant_of-self : goal.invariant_of-self
-invariant_of-self c =
-    let a = c.clear.ensures in
-    let b = c.clear-2.ensures in
-    let l = c.clear-3.ensures in
-    record {
-      held = (omega arith, omega arith);
-      paired = (omega arith, omega arith);
-      few = (omega arith, omega arith);
-      countable = omega arith;
-      rises = λ i j (h, m). absurd (omega arith);
-      newest = λ id. newest_none id _ _ _ l.items a.len;
-      linked = λ i h. absurd (omega arith);
-      early = λ i h. absurd (omega arith);
-      steady = λ i j (h, m). absurd (omega arith);
-      most = most_none _ a.items;
-    }
+pub invariant_of-self-clause-newest : goal.invariant_of-self-clause-newest
+invariant_of-self-clause-newest c = λ id. newest_none id _ _ _ c.clear-3.ensures.items c.clear.ensures.len
+
+pub invariant_of-self-clause-most : goal.invariant_of-self-clause-most
+invariant_of-self-clause-most c = most_none _ c.clear.ensures.items

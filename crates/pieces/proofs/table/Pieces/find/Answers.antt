@@ -1,13 +1,8 @@
--- Of the list only what stands before the place has so few nodes before it.
 use Rattle.pieces.proofs.Placed.{found, not_found}
 use Rattle.pieces.proofs.table.Pieces.find.Goals as goal
 
-pub returns-then-ends : goal.returns-then-ends
-returns-then-ends c =
-    let d = c.args.self.now in
-    found _ _ d.ordered d.rows.ok.0 _ _ _ c.place_behind-i.ensures c.if-ends.ensures _ c.index.ensures
+pub returns-in_err-at : goal.returns-in_err-at
+returns-in_err-at c = rw c.from_residual.ensures (not_found _ c.args.list c.args.index c.in_err-at.ensures)
 
-pub returns-else-ends : goal.returns-else-ends
-returns-else-ends c =
-    let d = c.args.self.now in
-    not_found _ _ d.ordered d.rows.ok.0 _ _ _ c.place_behind-i.ensures c.if-ends.ensures
+pub returns : goal.returns
+returns c = rw c.as_slice.ensures.values (found _ c.args.list c.args.index _ c.in_ok-at.ensures)

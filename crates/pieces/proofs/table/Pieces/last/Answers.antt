@@ -5,6 +5,4 @@ use Rattle.pieces.proofs.Placed.{all_low}
 use Rattle.pieces.proofs.table.Pieces.last.Goals as goal
 
 pub returns : goal.returns
-returns c =
-    let d = c.args.self.now in
-    c.find.ensures ∙ ap last_piece (all_low _ _ d.rows.ok.0 d.fits _)
+returns c = c.find.ensures ∙ ap last_piece (all_low _ c.args.self.now.fits c.args.list)

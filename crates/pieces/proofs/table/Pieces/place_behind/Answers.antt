@@ -1,18 +1,11 @@
--- They stand in order, so what holds at `middle` holds of all before it, or of all from it on.
-use Rattle.std.proofs.Common.{vec_items, sym, ap, ◌∙◌, arith}
-use Rattle.std.proofs.lemmas.List.{get_or_read_under}
-use Rattle.pieces.specs.Placed.{no_piece, up_to}
-use Rattle.pieces.proofs.Placed.{below_step, above_step}
+-- The fragments are in order, so the search finds the place.
+use Rattle.std.proofs.Common.{rules}
+use Rattle.std.proofs.lemmas.List.Sorted.{IsPartitionPoint-from_clause}
+use Rattle.pieces.proofs.Placed.{pair_test, parted, parts}
 use Rattle.pieces.proofs.table.Pieces.place_behind.Goals as goal
 
-pub loop-low-preserved-then-is_up_to : goal.loop-low-preserved-then-is_up_to
-loop-low-preserved-then-is_up_to c =
-    let d = c.args.self.now in
-    let e = ap (up_to c.args.list c.args.from) (get_or_read_under _ _ _ _ no_piece c.index.ensures (omega arith) d.rows.ok.0) in
-    (omega arith, omega arith, below_step (vec_items d.rows) _ d.ordered c.args.list c.args.from _ (omega arith) (sym e ∙ sym c.if-is_up_to.ensures), c.loop-low.invariant.3)
-
-pub loop-low-preserved : goal.loop-low-preserved
-loop-low-preserved c =
-    let d = c.args.self.now in
-    let e = ap (up_to c.args.list c.args.from) (get_or_read_under _ _ _ _ no_piece c.index.ensures (omega arith) d.rows.ok.0) in
-    (omega arith, omega arith, c.loop-low.invariant.2, above_step (vec_items d.rows) _ d.ordered c.args.list c.args.from _ (sym e ∙ sym c.if-is_up_to.ensures))
+pub returns-clause-parts : goal.returns-clause-parts
+returns-clause-parts c =
+    let in_order = parted _ c.args.self.now.ordered c.args.list c.args.from in
+    let clause = rw c.as_slice.ensures.values at c.partition_point.ensures.partitioned in
+    parts c.args.list c.args.from _ _ (IsPartitionPoint-from_clause (pair_test c.args.list c.args.from) _ _ clause in_order (λ a r f k. search rules))

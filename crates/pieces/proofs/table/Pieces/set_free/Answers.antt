@@ -1,38 +1,34 @@
--- The list's last fragment stands before the place, or the list has none.
-use Rattle.std.proofs.Common.{◌<◌, refl, arith}
-use Rattle.std.proofs.lemmas.Bool.Decides.{nat_tests}
-use Rattle.pieces.proofs.Placed.{fits_set, ordered_set, is_none, is_some, none_freed, some_freed}
+-- The list's last fragment is found, or the list has none.
+use Rattle.std.proofs.Common.{refl}
+use Rattle.std.proofs.lemmas.Option.{MatchOption-at_some, MatchOption-at_none}
+use Rattle.std.proofs.lemmas.Result.{err_from_is_err_and}
+use Rattle.pieces.specs.Placed.{IsLast}
+use Rattle.pieces.proofs.Placed.{fits_set, ordered_set, is_none, none_freed, some_freed}
 use Rattle.pieces.proofs.table.Pieces.set_free.Goals as goal
 
-pub returns-then-not-ends : goal.returns-then-not-ends
-returns-then-not-ends c =
-    let d = c.args.self.now in
-    let place = c.place_behind-i.ensures in
-    record {
-      test = is_none _ _ d.ordered d.rows.ok.0 d.fits _ _ place c.if-not-ends.ensures;
-      rows = none_freed _ _ d.ordered d.rows.ok.0 d.fits _ _ place c.if-not-ends.ensures c.args.free;
-      len = refl;
-    }
+pub returns-in_err-at-clause-test : goal.returns-in_err-at-clause-test
+returns-in_err-at-clause-test c =
+    let none = MatchOption-at_none _ (IsLast c.args.list _ _) c.in_err-at.ensures.ok_part c.last_up_to.ensures in
+    let err = err_from_is_err_and c.from_residual.result c.from_residual.ensures.1 in
+    rw err.1 (is_none _ c.args.self.now.fits c.args.list none)
 
-pub returns : goal.returns
-returns c =
-    let d = c.args.self.now in
-    let place = c.place_behind-i.ensures in
-    record {
-      test = is_some _ _ d.ordered d.rows.ok.0 d.fits _ _ place c.if-not-ends.ensures;
-      rows = some_freed _ _ d.ordered d.rows.ok.0 d.fits _ _ place c.if-not-ends.ensures c.args.free _ c.index_mut.ensures.value;
-      len = refl;
-    }
+pub returns-in_err-at-clause-rows : goal.returns-in_err-at-clause-rows
+returns-in_err-at-clause-rows c =
+    let none = MatchOption-at_none _ (IsLast c.args.list _ _) c.in_err-at.ensures.ok_part c.last_up_to.ensures in
+    none_freed _ c.args.self.now.fits c.args.list none c.args.free
 
 pub invariant_of-self : goal.invariant_of-self
 invariant_of-self c =
     let d = c.args.self.now in
-    let t = c.if-not-ends.ensures in
-    let w = c.place_behind-i.ensures.within in
-    let some : 0 < c.place_behind-i.result = grind (arith, nat_tests) in
+    let last = MatchOption-at_some _ (IsLast c.args.list _ _) c.in_ok-at.at c.in_ok-at.ensures.ok_part c.last_up_to.ensures in
+    let items = rw c.as_slice.ensures.values at c.set.ensures in
     record {
-      room = omega arith;
-      few = omega arith;
-      fits = fits_set _ _ d.ordered d.rows.ok.0 _ (omega arith) _ c.index_mut.ensures.value _ refl refl d.fits;
-      ordered = ordered_set _ _ d.ordered d.rows.ok.0 _ (omega arith) _ c.index_mut.ensures.value _ refl refl;
+      fits = rw items (fits_set _ d.ordered c.in_ok-at.at last.within _ refl refl d.fits);
+      ordered = rw items (ordered_set _ d.ordered c.in_ok-at.at last.within _ refl refl);
     }
+
+pub returns-clause-rows : goal.returns-clause-rows
+returns-clause-rows c = λ id.
+    let last = MatchOption-at_some _ (IsLast c.args.list _ _) c.in_ok-at.at c.in_ok-at.ensures.ok_part c.last_up_to.ensures in
+    let items = rw c.as_slice.ensures.values at c.set.ensures in
+    rw items (some_freed _ c.args.self.now.fits c.args.list _ last c.args.free id)

@@ -1,0 +1,17 @@
+-- A read and a write, part by part.
+use Rattle.std.proofs.Common.{◌≡◌, ℕ, ◌+◌, ◌-◌, ◌≤◌, List, ◌++◌, length, take, drop, arith, rules}
+use Rattle.std.proofs.lemmas.List.{same_lists, places}
+use borrow.Rule.Slice.PartMut.{put_mid}
+use Rattle.model.specs.Bytes.{piece, written}
+
+-- n more bytes of a read
+pub read_on : (row was xs ys : List ℕ) (p i n : ℕ) → p + i + n ≤ length row → i + n ≤ length was → xs ≡ piece row p i ++ drop i was → ys ≡ piece row (p + i) n
+    → put_mid i (i + n - i) xs ys ≡ piece row p (i + n) ++ drop (i + n) was
+unfolding piece
+read_on row was xs ys p i n a b e f = rw (e, f) (same_lists _ _ (search (rules, places)) (λ j d h. grind (arith, places)))
+
+-- n more bytes of a write
+pub written_on : (row was after : List ℕ) (p i n : ℕ) (new : List ℕ) → p + length new ≤ length row → i + n ≤ length new → was ≡ written row p (take i new)
+    → after ≡ written was (p + i) (take (i + n - i) (drop i new)) → after ≡ written row p (take (i + n) new)
+unfolding written
+written_on row was after p i n new a b e f = rw (f, e) (same_lists _ _ (search (rules, places)) (λ j d h. grind (arith, places)))
