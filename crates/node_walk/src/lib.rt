@@ -48,7 +48,7 @@ fn reference_width(head: &Head) -> usize
     head.target().map_or(0, |_| width(head.stp, head.cb))
 }
 
-/// Where a fragment's nodes begin.
+/// Where a fragment's nodes begin: of any range, where a `ListFragment` asks for its own.
 pub fn nodes_from(fragment: Span) -> u64
     ensures { fragment.start + fragment.size ≤ 2 ^ 40 → result ≡ nodes_from fragment }
 {
