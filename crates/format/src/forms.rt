@@ -4,7 +4,7 @@ ghost use Rattle.model.specs.Bytes.{le};
 
 /// What a format says of a number: how many bytes it takes, and what it counts in. No such number passes 64 bits.
 #[derive(Clone, Copy, PartialEq, Eq, Debug)]
-pub struct Form {
+pub(crate) struct Form {
     pub width: usize,
     pub unit: u64,
     ghost few: { width ≤ 8 },
@@ -12,7 +12,7 @@ pub struct Form {
 }
 
 /// The forms of a start, by the format.
-pub const START_FORMS: [Form; 4] = [
+pub(crate) const START_FORMS: [Form; 4] = [
     Form { width: 8, unit: 1 },
     Form { width: 4, unit: 1 },
     Form { width: 2, unit: 8 },
@@ -20,7 +20,7 @@ pub const START_FORMS: [Form; 4] = [
 ];
 
 /// The forms of a size, by the format.
-pub const SIZE_FORMS: [Form; 4] = [
+pub(crate) const SIZE_FORMS: [Form; 4] = [
     Form { width: 4, unit: 1 },
     Form { width: 8, unit: 1 },
     Form { width: 1, unit: 8 },
@@ -31,14 +31,14 @@ impl Form {
     ghost use Rattle.format.specs.Forms.{IsFormOf};
 
     /// The form of a format; one past 3 counts as 3.
-    pub fn of(forms: &[Form; 4], format: u32) -> Form
+    pub(crate) fn of(forms: &[Form; 4], format: u32) -> Form
         ensures { IsFormOf forms.now format result }
     {
         forms[format.min(3) as usize]
     }
 
     /// The number in the bytes that it takes.
-    pub fn read(self, bytes: &[u8]) -> u64
+    pub(crate) fn read(self, bytes: &[u8]) -> u64
         requires { length bytes.now ≡ self.width }
         ensures { result ≡ self.unit * le self.width bytes.now 0 }
     {
@@ -47,7 +47,7 @@ impl Form {
 }
 
 /// The number of at most eight bytes, the lowest byte first.
-pub fn number(bytes: &[u8]) -> u64
+pub(crate) fn number(bytes: &[u8]) -> u64
     requires { length bytes.now ≤ 8 }
     ensures value { result ≡ le (length bytes.now) bytes.now 0 }
     ensures bound { result < 256 ^ length bytes.now }
