@@ -1,19 +1,19 @@
 -- Fragments in order: what a search finds, and what one more or another free place leaves in order.
-use Rattle.std.proofs.Common.{◌≡◌, ℕ, suc, ◌+◌, ◌^◌, ◌<◌, ◌≤◌, Bool, true, false, min, cond, eqb, leb, List, [], ◌∷◌, ◌++◌, length, get_or, take, drop, set, Some, None, MatchOption, filter, sym, refl, ap, ◌∙◌, subst, inl, inr, arith}
+use Rattle.std.proofs.Common.{◌≡◌, ℕ, ◌+◌, ◌^◌, ◌<◌, ◌≤◌, Bool, true, false, min, cond, eqb, leb, List, [], ◌∷◌, ◌++◌, length, get_or, take, drop, Some, None, MatchOption, filter, sym, refl, ap, ◌∙◌, inl, inr, arith}
 use Rattle.std.specs.List.{All, AllPairs, insert}
 use Rattle.std.specs.List.Sorted.{IsPartitionedBy, IsPartitionPoint}
 use Rattle.std.specs.Bool.{then_some}
 use Rattle.std.specs.Ordering.{nat_cmp, is_le, is_some_and, partial_ordering_then}
 use Rattle.std.proofs.lemmas.List.Elements.{filter_more}
-use Rattle.std.proofs.lemmas.List.{take-append-drop, get_or-take, length-set, length-take-le, get_or_default, get_or-set_same, get_or-set_other, set-get_or, set_split}
-use Rattle.std.proofs.lemmas.Bool.{cases_lt, cases_eq, cases_Bool}
+use Rattle.std.proofs.lemmas.List.{take-append-drop, get_or-take, length-take-le, get_or_default}
+use Rattle.std.proofs.lemmas.Bool.{cases_lt}
 use Rattle.std.proofs.lemmas.Bool.Decides.{nat_tests}
 use Rattle.bounded.proofs.Places.{All-front, All-back, AllPairs-insert}
 use Rattle.bounded.proofs.Filters.{filter_all, filter_none, All-passed}
 use Rattle.pieces.specs.declared.piece.Piece.{Piece}
-use Rattle.pieces.specs.Found.{of_list, some_of, last_piece, last_from, put_in, freed}
+use Rattle.pieces.specs.Found.{of_list, some_of, last_piece, last_from, put_in}
 use Rattle.pieces.specs.Placed.{no_piece, piece_at, up_to, front_of, IsLast}
-use Rattle.pieces.proofs.Kept.{last_push, some_push, low_whole, put_between, freed_between}
+use Rattle.pieces.proofs.Kept.{last_push, some_push, low_whole, put_between}
 
 abbrev pub Ordered : List Piece → Type 0
 Ordered ps = AllPairs (λ p q. up_to q.list q.from p ≡ true) ps
@@ -46,23 +46,6 @@ module _ (ps : List Piece) (ordered : Ordered ps) where
         | inl b ↦ below_too id from (get_or ps j d) (get_or ps i d) e (ordered i j d b l)
         | inr b ↦ let q : i ≡ j = omega arith in rw q e
       ]
-
-  -- another one with the same place in the order
-  module _ (m : ℕ) (there : m < length ps) (x : Piece) (same_list : x.list ≡ (piece_at ps m).list) (same_from : x.from ≡ (piece_at ps m).from) where
-    kept_key : (k : ℕ) (d : Piece) → ((get_or (set ps m x) k d).list ≡ (get_or ps k d).list) × ((get_or (set ps m x) k d).from ≡ (get_or ps k d).from)
-    kept_key k d = elim (cases_eq k m) [
-      | inl p ↦
-          let e = get_or-set_same ps m x d there in
-          let r = get_or_default ps m no_piece d there in
-          rw (p, e) (same_list ∙ ap (λ (q : Piece). q.list) r, same_from ∙ ap (λ (q : Piece). q.from) r)
-      | inr p ↦ let e = get_or-set_other ps m k x d p in (ap (λ (q : Piece). q.list) e, ap (λ (q : Piece). q.from) e)
-    ]
-
-    pub ordered_set : Ordered (set ps m x)
-    ordered_set j k d h l = let (a, b) = kept_key j d in let (s, t) = kept_key k d in rw (a, b, s, t) (ordered j k d h (omega (arith, length-set {A = Piece})))
-
-    pub fits_set : All (λ p. p.from < 2 ^ 32) ps → All (λ p. p.from < 2 ^ 32) (set ps m x)
-    fits_set fits k d l = let (a, b) = kept_key k d in rw b (fits k d (omega (arith, length-set {A = Piece})))
 
   module _ (id from i : ℕ) (within : i ≤ length ps) (place : IsPartitionPoint (λ q. up_to id from q ≡ true) (λ q. up_to id from q ≡ false) ps i) where
     -- what is kept of the list is what stands before the place
@@ -131,32 +114,9 @@ module _ (ps : List Piece) (fits : All (λ p. p.from < 2 ^ 32) ps) (id : ℕ) wh
     pub is_none : false ≡ some_of (of_list id ps)
     is_none = sym (ap some_of (sym all_low ∙ none))
 
-    pub none_freed : (free z : ℕ) → of_list z ps ≡ cond (eqb id z) (freed free (of_list z ps)) (of_list z ps)
-    unfolding freed
-    none_freed free z = elim (cases_Bool (eqb id z)) [
-      | inl e ↦
-          let q : id ≡ z = grind (arith, nat_tests) in
-          let o : of_list z ps ≡ [] = rw q at (sym all_low ∙ none) in
-          rw (e, o) refl
-      | inr e ↦ rw e refl
-    ]
-
   module _ (i : ℕ) (last : IsLast id 4294967295 ps i) where
     whole : of_list id ps ≡ of_list id (take i ps) ++ (piece_at ps i ∷ [])
     whole = sym all_low ∙ last.front
 
     pub is_some : true ≡ some_of (of_list id ps)
     is_some = sym (ap some_of whole ∙ some_push (of_list id (take i ps)) (piece_at ps i))
-
-    pub some_freed : (free z : ℕ)
-        → of_list z (set ps i (record { list = (piece_at ps i).list; number = (piece_at ps i).number; from = (piece_at ps i).from; fragment = (piece_at ps i).fragment; free = free }))
-        ≡ cond (eqb id z) (freed free (of_list z ps)) (of_list z ps)
-    some_freed free z =
-        let x = piece_at ps i in
-        let parts : ps ≡ take i ps ++ (x ∷ drop (suc i) ps) = sym (set-get_or ps i no_piece) ∙ set_split ps i x last.within in
-        let own_whole : of_list x.list (take i ps ++ (x ∷ drop (suc i) ps)) ≡ of_list x.list (take i ps) ++ (x ∷ [])
-        = subst (λ (m : ℕ). of_list m (take i ps ++ (x ∷ drop (suc i) ps)) ≡ of_list m (take i ps) ++ (x ∷ [])) (sym last.own) (ap (of_list id) (sym parts) ∙ whole) in
-        ap (of_list z) (set_split ps i _ last.within)
-        ∙ freed_between free (take i ps) (drop (suc i) ps) x own_whole z
-        ∙ ap (λ (qs : List Piece). cond (eqb x.list z) (freed free (of_list z qs)) (of_list z qs)) (sym parts)
-        ∙ ap (λ (m : ℕ). cond (eqb m z) (freed free (of_list z ps)) (of_list z ps)) last.own

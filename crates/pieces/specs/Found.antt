@@ -26,9 +26,3 @@ behind p ps = filter (λ q. leb q.from p.from) ps ++ (p ∷ filter (λ q. not (n
 -- the fragments of the list `id`, once p is put in
 abbrev pub put_in : Piece → ℕ → List Piece → List Piece
 put_in p id ps = cond (p.list == id) (behind p ps) ps
-
--- the place behind the last node of the last of them is another
-unfoldable pub freed : ℕ → List Piece → List Piece
-freed free [] = []
-freed free (p ∷ []) = record { list = p.list; number = p.number; from = p.from; fragment = p.fragment; free = free } ∷ []
-freed free (p ∷ (q ∷ ps)) = p ∷ freed free (q ∷ ps)

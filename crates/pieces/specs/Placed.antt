@@ -5,7 +5,7 @@ use Rattle.pieces.specs.declared.piece.Piece.{Piece}
 use Rattle.pieces.specs.Found.{of_list}
 
 abbrev pub no_piece : Piece
-no_piece = record { list = 0; number = 0; from = 0; fragment = span 0 0; free = 0 }
+no_piece = record { list = 0; from = 0; row = 0; fragment = span 0 0 }
 
 abbrev pub piece_at : List Piece → ℕ → Piece
 piece_at ps i = slice_index_or ps i no_piece

@@ -1,17 +1,13 @@
 //! The fragments of all lists in order.
 ghost use Rattle.std.specs.Prelude.{◌≡◌, ℕ, ◌+◌, ◌^◌, ◌<◌, ◌≤◌, true, false, [], All, AllPairs, IfOk, MatchOption, if◌then◌else◌, is_ok, length, nat_eq, nat_lt};
 ghost use Rattle.std.specs.List.Sorted.{IsPartitionPoint};
-ghost use Rattle.pieces.specs.Found.{of_list, some_of, last_piece, last_from, put_in, freed};
+ghost use Rattle.pieces.specs.Found.{of_list, some_of, last_piece, last_from, put_in};
 ghost use Rattle.pieces.specs.Placed.{up_to, front_of, IsLast};
 
 use crate::piece::Piece;
 use bounded::{Bounded, Full};
 use model::limits::MOST_FRAGMENTS;
 use std::alloc::{AllocError, Global};
-
-/// No fragment of the list is there.
-#[derive(Clone, Copy, PartialEq, Eq, Debug)]
-pub struct NoList;
 
 /// Fragments in the order of their lists, and of one list in the order of the nodes before them.
 #[derive(Drop)]
@@ -93,17 +89,5 @@ impl Pieces {
     {
         let at = self.place_behind(piece.list, piece.from);
         self.rows.insert(at, piece)
-    }
-
-    /// Moves the place behind the last node of a list's last fragment, if the list has one.
-    pub fn set_free(&mut self, list: u32, free: u64) -> Result<(), NoList>
-        ensures test { is_ok result ≡ some_of (of_list list self.old.rows) }
-        ensures rows { (id : ℕ) → of_list id self.new.rows ≡ (if nat_eq list id then freed free (of_list id self.old.rows) else of_list id self.old.rows) }
-        ensures len { length self.new.rows ≡ length self.old.rows }
-    {
-        let at = self.last_up_to(list, u32::MAX).ok_or(NoList)?;
-        let piece = self.rows.as_slice()[at];
-        self.rows.set(at, Piece { free, ..piece });
-        Ok(())
     }
 }

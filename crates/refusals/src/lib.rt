@@ -1,4 +1,5 @@
 //! Why a file is not opened, and what each refusal tells.
 #![tactic(auto)]
 
+pub mod calls;
 pub mod faults;

@@ -3,3 +3,4 @@ pub mod Misplacings
 pub mod Places
 pub mod Queues
 pub mod Rows
+pub mod Kept

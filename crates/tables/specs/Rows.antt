@@ -1,8 +1,6 @@
 -- The lists of an opened file as rows.
-use Rattle.std.specs.Prelude.{◌≡◌, ℕ, ◌+◌, Bool, List, [], ◌∷◌, length, ◌==◌}
-use Rattle.std.specs.List.{list_any}
+use Rattle.std.specs.Prelude.{ℕ, ◌+◌, List, [], ◌∷◌, length}
 use Rattle.model.specs.Section.{NodeList}
-use Rattle.model.specs.OpenedLists.{taken}
 use Rattle.tables.specs.declared.room.Row.{Row}
 
 -- the row of a list whose fragments stand from the index `at` on among all
@@ -12,11 +10,3 @@ row_of at l = record { id = l.id; first = at; fragments = length l.fragments; no
 abbrev pub rows_of : ℕ → List NodeList → List Row
 rows_of at [] = []
 rows_of at (l ∷ ls) = row_of at l ∷ rows_of (at + length l.fragments) ls
-
--- an ID is that of a row
-abbrev pub row_taken : ℕ → List Row → Bool
-row_taken id rows = list_any (λ r. r.id == id) rows
-
--- the lists have the IDs of the rows
-abbrev pub SameIds : List NodeList → List Row → Type 0
-SameIds ls rows = (id : ℕ) → taken id ls ≡ row_taken id rows

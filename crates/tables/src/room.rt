@@ -1,6 +1,5 @@
 //! The room that opening works in: reserved at once, so that opening itself never wants memory.
 ghost use Rattle.std.specs.Prelude.{◌≡◌, [], IfOk, vec_len};
-ghost use Rattle.tables.specs.Rows.{row_taken};
 
 use crate::fragments::Fragments;
 use crate::queue::Queue;
@@ -68,12 +67,5 @@ impl Room {
         self.lists.clear();
         self.queue.clear();
         self.pieces.clear();
-    }
-
-    /// Whether a list with this ID was read.
-    pub fn has_list(&self, id: u32) -> bool
-        ensures { result ≡ row_taken id self.now.lists }
-    {
-        self.lists.as_slice().iter().any(|row| row.id == id)
     }
 }

@@ -1,5 +1,5 @@
 //! What a table of counts answers.
-ghost use Rattle.std.specs.Prelude.{◌≡◌};
+ghost use Rattle.std.specs.Prelude.{◌≡◌, ◌-◌, vec_len};
 ghost use Rattle.counts.specs.Noted.{noted, noted_at, noted_most};
 
 use crate::table::Counts;
@@ -10,6 +10,13 @@ impl Counts {
         ensures { result ≡ self.now.finished }
     {
         self.finished
+    }
+
+    /// For how many changes more there is room.
+    pub fn left(&self) -> usize
+        ensures { result ≡ self.now.room - vec_len self.now.changes }
+    {
+        self.room.saturating_sub(self.changes.len())
     }
 
     /// The highest ID of a list that was given a count; 0 for none.
