@@ -1,4 +1,3 @@
 pub mod DataWalks
 pub mod Files
 pub mod ListWalks
-pub mod DataRead

@@ -1,5 +1,5 @@
 -- One list after the other: what is left to read gives what the whole gives.
-use Rattle.std.proofs.Common.{◌≡◌, ℕ, zero, suc, ◌+◌, ◌-◌, ◌<◌, ◌≤◌, true, false, ◌||◌, eqb, ltb, ◌⊎◌, List, [], ◌∷◌, ◌++◌, length, get_or, Some, None, slice_get, drop, sym, refl, ap, ◌∙◌, ap₂, inl, inr, append_assoc, append-nil, add-zero, add-one, arith, drop-cons}
+use Rattle.std.proofs.Common.{◌≡◌, ℕ, zero, suc, ◌+◌, ◌-◌, ◌<◌, ◌≤◌, true, false, ltb, List, [], ◌∷◌, ◌++◌, length, get_or, Some, None, slice_get, drop, sym, refl, ap, ◌∙◌, ap₂, inl, inr, append_assoc, append-nil, add-zero, add-one, arith, drop-cons}
 use Rattle.std.proofs.lemmas.List.{length-append, length-map, length-take, get_or-take, get_or-map, drop-append-le, drop_all}
 use Rattle.std.proofs.lemmas.Option.{get_or_from_slice_get, slice_get_within, slice_get_cases}
 use Rattle.std.proofs.lemmas.Bool.{cases_lt}
@@ -10,15 +10,18 @@ use Rattle.model.specs.declared.types.Header.{Header}
 use Rattle.model.specs.Faults.{done, refused, then}
 use Rattle.model.specs.ListFragments.{owner}
 use Rattle.model.specs.Section.{Log, NodeList, count_in, list_fragments}
-use Rattle.model.specs.OpenedLists.{taken, list_from, named_by, named_first, named_list, lists_from}
+use Rattle.model.specs.OpenedLists.{list_from, named_by, named_first, named_list, lists_from}
 use Rattle.counts.specs.declared.changes.Change.{Change}
 use Rattle.counts.specs.Noted.{noted}
 use Rattle.tables.specs.declared.room.Row.{Row}
 use Rattle.tables.specs.declared.queue.Named.{Named}
 use Rattle.tables.specs.Queues.{pair_of, Held}
-use Rattle.tables.specs.Rows.{row_of, rows_of, row_taken, SameIds}
+use Rattle.tables.specs.Rows.{row_of, rows_of}
+use Rattle.pieces.specs.declared.piece.Piece.{Piece}
+use Rattle.lists_pass.specs.ListPieces.{SameIds}
 use Rattle.lists_pass.specs.Listings.{list_of, Listed}
 use Rattle.lists_pass.specs.Opening.{Opening, AllRead}
+use Rattle.lists_pass.proofs.Indexings.{same_ids, indexed_none, indexed_more}
 
 rows_more : (at : ℕ) (ls : List NodeList) (l : NodeList) → rows_of at (ls ++ (l ∷ [])) ≡ rows_of at ls ++ (row_of (at + length (list_fragments ls)) l ∷ [])
 rows_more at [] l = ap (λ k. row_of k l ∷ []) (sym (add-zero at))
@@ -29,14 +32,6 @@ rows_more at (m ∷ ls) l =
 fragments_more : (ls : List NodeList) (l : NodeList) → list_fragments (ls ++ (l ∷ [])) ≡ list_fragments ls ++ l.fragments
 fragments_more [] l = append-nil l.fragments
 fragments_more (m ∷ ls) l = ap (λ fs. m.fragments ++ fs) (fragments_more ls l) ∙ sym (append_assoc m.fragments (list_fragments ls) l.fragments)
-
-same_ids : (at : ℕ) (ls : List NodeList) (id : ℕ) → taken id ls ≡ row_taken id (rows_of at ls)
-same_ids at [] id = refl
-same_ids at (l ∷ ls) id = ap (λ t. eqb l.id id || t) (same_ids (at + length l.fragments) ls id)
-
-rows_length : (at : ℕ) (ls : List NodeList) → length (rows_of at ls) ≡ length ls
-rows_length at [] = refl
-rows_length at (l ∷ ls) = ap suc (rows_length (at + length l.fragments) ls)
 
 -- the n-th of all names is the n-th of the queue
 name_at : (queue : List Named) (names : List (ℕ × Span)) (n : ℕ) (q : Named) → Held queue names → n < length queue → n < 1025 → q ≡ get_or queue n q
@@ -72,62 +67,64 @@ lists_full n b h log cs before rows q qs ls e z l d =
     let t : ltb (length rows) 1024 ≡ false = grind (arith, nat_tests) in
     ap (λ j. lists_from j b h log (pair_of q ∷ qs) ls) z ∙ grind (arith, nat_tests)
 
-pub opening_none : (b : List ℕ) (h : Header) (log : Log) (rows : List Row) (all : List Span) (queue : List Named) → all ≡ log.fragments → rows ≡ []
-    → Held queue (named_first h) → Opening b h log 0 rows all queue
-opening_none b h log rows all queue f r q = record {
+pub opening_none : (b : List ℕ) (h : Header) (log : Log) (rows : List Row) (ps : List Piece) (all : List Span) (queue : List Named) → all ≡ log.fragments → rows ≡ [] → ps ≡ []
+    → Held queue (named_first h) → Opening b h log 0 rows ps all queue
+opening_none b h log rows ps all queue f r p q = record {
   lists = [];
   names = named_first h;
   number = refl;
+  few = omega arith;
   held = q;
   row = r;
   fragments = f ∙ sym (append-nil log.fragments);
+  indexed = indexed_none b rows ps r p;
+  fewer = omega (arith, ap length p);
   goes = refl;
 }
 
--- the rows read so far have the IDs of the lists, and are as many
-opening_ids : {b : List ℕ} {h : Header} {log : Log} {n : ℕ} {rows : List Row} {all : List Span} {queue : List Named} (o : Opening b h log n rows all queue)
-    → SameIds o.lists rows
-opening_ids {log = log} o id = rw o.row (same_ids (length log.fragments) o.lists id)
-
-opening_length : {b : List ℕ} {h : Header} {log : Log} {n : ℕ} {rows : List Row} {all : List Span} {queue : List Named} → Opening b h log n rows all queue → n ≡ length rows
-opening_length {log = log} o = rw o.row (o.number ∙ sym (rows_length (length log.fragments) o.lists))
+-- as many rows as lists were read
+opening_length : {b : List ℕ} {h : Header} {log : Log} {n : ℕ} {rows : List Row} {ps : List Piece} {all : List Span} {queue : List Named} → Opening b h log n rows ps all queue → n ≡ length rows
+opening_length o = o.number ∙ sym o.indexed.number
 
 -- the next name is the first of those that are left
-opening_next : {b : List ℕ} {h : Header} {log : Log} {n : ℕ} {rows : List Row} {all : List Span} {queue : List Named} {q : Named} (o : Opening b h log n rows all queue)
+opening_next : {b : List ℕ} {h : Header} {log : Log} {n : ℕ} {rows : List Row} {ps : List Piece} {all : List Span} {queue : List Named} {q : Named} (o : Opening b h log n rows ps all queue)
     → n < 1025 → slice_get queue n ≡ Some q
     → lists_from 1024 b h log (named_first h) [] ≡ lists_from (1024 - n) b h log (pair_of q ∷ drop (n + 1) o.names) o.lists
 opening_next {n = n} {queue = queue} {q} o l s =
     let d = name_at queue o.names n q o.held (slice_get_within queue n q s) l (sym (get_or_from_slice_get queue n q q s)) in
     o.goes ∙ rw d
 
-pub opening_more : {b : List ℕ} {h : Header} {log : Log} (cs : List Change) {n : ℕ} {rows after : List Row} {all more : List Span} {queue is : List Named} (q : Named)
-    → Opening b h log n rows all queue → ((id : ℕ) → noted cs id ≡ count_in log.transactions id) → slice_get queue n ≡ Some q
-    → Listed b h.end cs all rows q after more queue is → Opening b h log (n + 1) after more is
-opening_more {b} {h} {log} cs {n} {rows} {after} {all} {queue = queue} q o c g x =
+pub opening_more : {b : List ℕ} {h : Header} {log : Log} (cs : List Change) {n : ℕ} {rows after : List Row} {ps qs : List Piece} {all more : List Span} {queue is : List Named} (q : Named)
+    → Opening b h log n rows ps all queue → ((id : ℕ) → noted cs id ≡ count_in log.transactions id) → slice_get queue n ≡ Some q
+    → Listed b h.end cs all rows q after ps qs more queue is → Opening b h log (n + 1) after qs more is
+opening_more {b} {h} {log} cs {n} {rows} {after} {ps} {qs} {all} {queue = queue} q o c g x =
     let k = opening_length o in
     let l = slice_get_within queue n q g in
     let m : n < 1024 = omega (arith, x.few) in
     let named : named_list b h log o.lists (pair_of q) (owner b q.span) ≡ done x.list
-    = sym (list_named b h log cs all rows o.lists q x.few c o.fragments) ∙ x.gives o.lists (opening_ids o) in
+    = sym (list_named b h log cs all rows o.lists q x.few c o.fragments) ∙ x.gives o.lists (same_ids o.indexed) in
     let long : n + 1 ≤ length o.names = omega (arith, ap length o.held, length-map queue pair_of, length-take 1025 o.names) in
     let size : length all ≡ length log.fragments + length (list_fragments o.lists) = rw o.fragments (length-append log.fragments (list_fragments o.lists)) in
     record {
       lists = o.lists ++ (x.list ∷ []);
       names = o.names ++ named_by x.list;
       number = omega (arith, o.number, length-append o.lists (x.list ∷ []));
+      few = omega arith;
       held = x.names o.names o.held;
       row = x.row ∙ ap₂ (λ rs j. rs ++ (row_of j x.list ∷ [])) o.row size ∙ sym (rows_more (length log.fragments) o.lists x.list);
       fragments = x.held ∙ rw (o.fragments, fragments_more o.lists x.list, append_assoc);
+      indexed = rw x.row (indexed_more x.list (row_of (length all) x.list) (record { id = refl; fragments = refl; nodes = refl; free = refl }) x.pieces x.new o.indexed);
+      fewer = x.fewer;
       goes = opening_next o (omega arith) g ∙ lists_next (1024 - n) (1024 - (n + 1)) b h log (pair_of q) (drop (n + 1) o.names) o.lists (omega arith)
           ∙ rw (named, drop-append-le (n + 1) o.names (named_by x.list) long);
     }
 
-pub opening_refused : {b : List ℕ} {h : Header} {log : Log} (cs : List Change) {n : ℕ} {rows : List Row} {all : List Span} {queue : List Named} (q : Named) {e : Fault}
-    → Opening b h log n rows all queue → ((id : ℕ) → noted cs id ≡ count_in log.transactions id) → n < 1025 → slice_get queue n ≡ Some q
-    → ((ls : List NodeList) → SameIds ls rows → list_of b h.end cs all rows ls q ≡ refused e) → lists_from 1024 b h log (named_first h) [] ≡ refused e
-opening_refused {b} {h} {log} cs {n} {rows} {all} q {e} o c m g x =
+pub opening_refused : {b : List ℕ} {h : Header} {log : Log} (cs : List Change) {n : ℕ} {rows : List Row} {ps : List Piece} {all : List Span} {queue : List Named} (q : Named) {e : Fault}
+    → Opening b h log n rows ps all queue → ((id : ℕ) → noted cs id ≡ count_in log.transactions id) → n < 1025 → slice_get queue n ≡ Some q
+    → ((ls : List NodeList) → SameIds ls ps → list_of b h.end cs all rows ls q ≡ refused e) → lists_from 1024 b h log (named_first h) [] ≡ refused e
+opening_refused {b} {h} {log} cs {n} {rows} {ps} {all} q {e} o c m g x =
     let k = opening_length o in
-    let here = x o.lists (opening_ids o) in
+    let here = x o.lists (same_ids o.indexed) in
     opening_next o m g
     ∙ elim (cases_lt n 1024) [
       | inl lt ↦ lists_next (1024 - n) (1024 - (n + 1)) b h log (pair_of q) (drop (n + 1) o.names) o.lists (omega arith)
@@ -140,24 +137,14 @@ unfolding lists_from
 lists_none zero b h log ls = refl
 lists_none (suc n) b h log ls = refl
 
-pub opening_end : {b : List ℕ} {h : Header} {log : Log} {n : ℕ} {rows : List Row} {all : List Span} {queue : List Named} → Opening b h log n rows all queue
-    → None ≡ slice_get queue n → n < 1025 → AllRead b h log rows all
+pub opening_end : {b : List ℕ} {h : Header} {log : Log} {n : ℕ} {rows : List Row} {ps : List Piece} {all : List Span} {queue : List Named} → Opening b h log n rows ps all queue
+    → None ≡ slice_get queue n → n < 1025 → AllRead b h log rows ps all
 opening_end {b} {h} {log} {n} {queue = queue} o s m =
     let l : length queue ≤ n = grind (arith, slice_get_cases {X = Named}) in
     record {
       lists = o.lists;
       row = o.row;
       fragments = o.fragments;
+      indexed = o.indexed;
       gives = o.goes ∙ rw (names_end queue o.names n o.held l m) (lists_none (1024 - n) b h log o.lists);
     }
-
-pub listed_few : {b : List ℕ} {end : ℕ} {cs : List Change} {before : List Span} {rows : List Row} {q : Named} {after : List Row} {all : List Span} {was is : List Named}
-    → Listed b end cs before rows q after all was is → length after ≤ 1024
-listed_few {before = before} {rows} x =
-    omega (arith, x.few, ap length x.row, length-append rows (row_of (length before) x.list ∷ []))
-
--- there is no 1,025th list
-pub opening_few : {b : List ℕ} {h : Header} {log : Log} {n : ℕ} {rows : List Row} {all : List Span} {queue : List Named} → Opening b h log n rows all queue
-    → (length rows ≤ 1024) ⊎ (n ≡ 0) → 1024 < n → ⊥
-opening_few o (inl f) l = omega (arith, opening_length o)
-opening_few o (inr f) l = omega arith

@@ -16,6 +16,8 @@ use Rattle.tables.specs.declared.queue.Named.{Named}
 use Rattle.node_walk.specs.Walks.{bad_head}
 use Rattle.tables.specs.Queues.{Names, names_of, name_of}
 use Rattle.lists_pass.specs.Parts.{Walking, Walked}
+use Rattle.meaning.proofs.GoodNodes.{passes}
+use Rattle.meaning.proofs.Growth.{nodes_push}
 use Rattle.node_walk.proofs.NodeSteps.{bad_is, walk_over, walk_bad, walk_on, walk_end}
 use Rattle.tables.proofs.Queued.{names_none, names_more}
 
@@ -41,6 +43,7 @@ walking_none b left list f from was e = record {
   nodes = [];
   number = refl;
   names = rw names_of_none (names_none was);
+  stand = sym e;
   goes = λ ns. let z : left - 0 ≡ left = omega arith in rw (z, append-nil ns, e);
 }
 
@@ -56,6 +59,8 @@ walking_more {b} {left} {list} {f} {k} {place} {was} {is} stop after h r t w l o
       nodes = w.nodes ++ (m ∷ []);
       number = omega (arith, length-append w.nodes (m ∷ []), w.number);
       names = rw (names_of_both w.nodes (m ∷ []), names_of_one m) (names_more was is after (names_of w.nodes) (name_of place m.base m.reference) w.names (rw (e, u) at n));
+      stand = rw e (nodes_push b (nodes_to f) (nodes_from f) w.nodes place m w.stand
+          (passes b (nodes_to f) place (rw t at (sym o)) (rw t at d ∙ bad_is h (le 4 b place) (nodes_to f) place e)));
       goes = λ ns. w.goes ns
           ∙ walk_on (left - k) b list (nodes_to f) place (ns ++ w.nodes) (omega arith) (rw t at o) (sym (bad_is h (le 4 b place) (nodes_to f) place e) ∙ rw t at (sym d))
           ∙ rw (q, e, append_assoc);
@@ -70,6 +75,7 @@ walked_over b left list f stop k place was is t w l o =
       nodes = w.nodes;
       number = w.number;
       names = w.names;
+      stand = w.stand;
       gives = λ ns. w.goes ns ∙ walk_over (left - k) b list (nodes_to f) place (ns ++ w.nodes) (omega arith) (rw t at o) ∙ rw e;
     }
 
@@ -87,5 +93,6 @@ walked_end b left list f k place was is w l =
       nodes = w.nodes;
       number = sym l ∙ w.number;
       names = w.names;
+      stand = w.stand;
       gives = λ ns. w.goes ns ∙ walk_end (left - k) b list (nodes_to f) place (ns ++ w.nodes) (omega arith) ∙ rw e;
     }

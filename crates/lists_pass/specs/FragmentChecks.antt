@@ -7,9 +7,9 @@ use Rattle.model.specs.ListFragments.{owner, unmarked, sequence, nodes_to}
 use Rattle.model.specs.OpenedLog.{outside, overlaps}
 use Rattle.counts.specs.declared.changes.Change.{Change}
 use Rattle.counts.specs.Noted.{noted}
-use Rattle.tables.specs.declared.room.Row.{Row}
 use Rattle.tables.specs.declared.queue.Named.{Named}
-use Rattle.tables.specs.Rows.{row_taken}
+use Rattle.pieces.specs.declared.piece.Piece.{Piece}
+use Rattle.pieces.specs.Found.{of_list, some_of}
 
 -- the place of a fragment behind all that were taken in; 13 full: there are 2,048
 abbrev pub place_checks : ℕ → List Span → ℕ → Span → ℕ → List Check
@@ -23,15 +23,15 @@ mislabelled b f id n = unmarked b f || not (sequence b f == n) || not (owner b f
 abbrev pub label_checks : List ℕ → Span → ℕ → ℕ → ℕ → List Check
 label_checks b f id n told = (mislabelled b f id n, fault 8 3 f.start told) ∷ []
 
--- at a list's first fragment: its ID is another's, or the log does not count it
-abbrev pub first_checks : List Row → ℕ → ℕ → Span → List Check
-first_checks rows count id f = (row_taken id rows, fault 12 3 f.start id) ∷ ((count == 0), fault 10 3 f.start id) ∷ []
+-- at a list's first fragment: a list read before has its ID, and so there are pieces of it; or the log does not count it
+abbrev pub first_checks : List Piece → ℕ → ℕ → Span → List Check
+first_checks ps count id f = (some_of (of_list id ps), fault 12 3 f.start id) ∷ ((count == 0), fault 10 3 f.start id) ∷ []
 
 -- all checks of a list's first fragment, behind the fragments `all`
-abbrev pub begin_checks : List ℕ → ℕ → List Span → List Row → List Change → Named → List Check
-begin_checks b end all rows cs q =
+abbrev pub begin_checks : List ℕ → ℕ → List Span → List Piece → List Change → Named → List Check
+begin_checks b end all ps cs q =
     let id = owner b q.span in
-    place_checks end all q.field q.span 0 ++ (label_checks b q.span id 0 0 ++ first_checks rows (noted cs id) id q.span)
+    place_checks end all q.field q.span 0 ++ (label_checks b q.span id 0 0 ++ first_checks ps (noted cs id) id q.span)
 
 -- all checks of the fragment that follows f in its list, the n-th from 0 on
 abbrev pub next_checks : List ℕ → ℕ → List Span → ℕ → ℕ → Span → List Check

@@ -4,6 +4,7 @@ use Rattle.model.specs.declared.types.Span.{Span}
 use Rattle.model.specs.Faults.{done, refused}
 use Rattle.model.specs.Nodes.{Node}
 use Rattle.model.specs.ListFragments.{nodes_from, nodes_to}
+use Rattle.model.specs.Means.{Nodes}
 use Rattle.model.specs.OpenedLists.{counted, uncounted, nodes_at}
 use Rattle.tables.specs.declared.queue.Named.{Named}
 use Rattle.refusals.specs.declared.faults.InList.{InList}
@@ -16,6 +17,7 @@ pub record Walking (b : List ℕ) (left list : ℕ) (f : Span) (k place : ℕ) (
   pub nodes : List Node
   pub number : k ≡ length nodes
   pub names : Names was (names_of nodes) is
+  pub stand : Nodes b (nodes_to f) (nodes_from f) nodes place
   pub goes : (ns : List Node) → nodes_at left b list (nodes_to f) (nodes_from f) ns ≡ nodes_at (left - k) b list (nodes_to f) place (ns ++ nodes)
 
 -- a fragment's k nodes were read: the count is reached by the last of them, or the fragment hands over
@@ -23,6 +25,7 @@ pub record Walked (b : List ℕ) (left list : ℕ) (f : Span) (k free : ℕ) (wa
   pub nodes : List Node
   pub number : k ≡ length nodes
   pub names : Names was (names_of nodes) is
+  pub stand : Nodes b (nodes_to f) (nodes_from f) nodes free
   pub gives : (ns : List Node) →
       nodes_at left b list (nodes_to f) (nodes_from f) ns ≡ done (cond (k == left) (counted (ns ++ nodes) free) (uncounted (ns ++ nodes)))
 

@@ -1,8 +1,9 @@
 //! Opening the lists: each that is named, walked whole before the next.
 #![tactic(auto)]
 
-ghost use Rattle.std.specs.Prelude.{◌≡◌, ◌^◌, ◌<◌, ◌≤◌, [], ◌∷◌, ◌++◌, length, take, IfOk, vec_len, OnOk};
+ghost use Rattle.std.specs.Prelude.{◌≡◌, false, ◌^◌, ◌<◌, ◌≤◌, [], ◌∷◌, ◌++◌, length, take, IfOk, vec_len, OnOk};
 ghost use Rattle.counts.specs.Noted.{noted};
+ghost use Rattle.pieces.specs.Found.{of_list, some_of};
 ghost use Rattle.model.specs.References.{span_at};
 ghost use Rattle.model.specs.ListFragments.{nodes_to};
 ghost use Rattle.model.specs.Section.{Log};
@@ -54,7 +55,7 @@ pub fn read_lists<S: Store>(
     checked: &CheckedHeader,
     room: &mut Room,
 ) -> Result<(), InList>
-    ensures answer { (log : Log) → Holds log room.old.counts.changes.items room.old.fragments room.old.lists → room.old.queue ≡ [] → ReadsAll (S.Store.bytes store.now) checked.now.header log room.new.lists room.new.fragments result }
+    ensures answer { (log : Log) → Holds log room.old.counts.changes.items room.old.fragments room.old.lists room.old.pieces.rows → room.old.queue ≡ [] → ReadsAll (S.Store.bytes store.now) checked.now.header log room.new.lists room.new.pieces.rows room.new.fragments result }
     ensures counts { room.new.counts ≡ room.old.counts }
 {
     name_first(&checked.header, &mut room.queue);
@@ -75,7 +76,7 @@ fn name_first(header: &Header, queue: &mut Queue)
 // Store, header and room are no struct here: the room is lent again in parts at each step, and only it changes.
 #[tactic(auto, using(crate::proofs::Openings::opening_none))]
 fn read_named<S: Store>(store: &S, checked: &CheckedHeader, room: &mut Room) -> Result<(), InList>
-    ensures answer { (log : Log) → Holds log room.old.counts.changes.items room.old.fragments room.old.lists → Held room.old.queue (named_first checked.now.header) → ReadsAll (S.Store.bytes store.now) checked.now.header log room.new.lists room.new.fragments result }
+    ensures answer { (log : Log) → Holds log room.old.counts.changes.items room.old.fragments room.old.lists room.old.pieces.rows → Held room.old.queue (named_first checked.now.header) → ReadsAll (S.Store.bytes store.now) checked.now.header log room.new.lists room.new.pieces.rows room.new.fragments result }
     ensures counts { room.new.counts ≡ room.old.counts }
 {
     for next in 0..MOST_LISTS + 1 {
@@ -88,14 +89,14 @@ fn read_named<S: Store>(store: &S, checked: &CheckedHeader, room: &mut Room) -> 
 }
 
 // Reads the list that a reference names, unless there are as many as there may be.
-#[tactic(auto, using(crate::proofs::ListWalks::held_first, crate::proofs::FirstSteps::listed_full))]
+#[tactic(auto, using(crate::proofs::ListWalks::held_first))]
 fn read_list<S: Store>(
     store: &S,
     checked: &CheckedHeader,
     room: &mut Room,
     named: Named,
 ) -> Result<(), InList>
-    ensures answer { Lists (S.Store.bytes store.now) checked.now.header.end room.old.counts.changes.items room.old.fragments room.old.lists named room.new.lists room.new.fragments room.old.queue room.new.queue result }
+    ensures answer { length room.old.pieces.rows ≤ length room.old.fragments → Lists (S.Store.bytes store.now) checked.now.header.end room.old.counts.changes.items room.old.fragments room.old.lists named room.new.lists room.old.pieces.rows room.new.pieces.rows room.new.fragments room.old.queue room.new.queue result }
     ensures counts { room.new.counts ≡ room.old.counts }
 {
     if room.lists.len() >= MOST_LISTS {
@@ -117,12 +118,13 @@ fn begin_list<S: Store>(
     room: &mut Room,
     named: Named,
 ) -> Result<Begun, InList>
-    ensures answer { Checked (begin_checks (S.Store.bytes store.now) checked.now.header.end room.old.fragments room.old.lists room.old.counts.changes.items named) result }
-    ensures begun { IfOk result (λ x. Begins (S.Store.bytes store.now) room.old.counts.changes.items named (length room.old.fragments) x) }
+    ensures answer { Checked (begin_checks (S.Store.bytes store.now) checked.now.header.end room.old.fragments room.old.pieces.rows room.old.counts.changes.items named) result }
+    ensures begun { IfOk result (λ x. Begins (S.Store.bytes store.now) room.old.counts.changes.items room.old.pieces.rows named (length room.old.fragments) x) }
     ensures fragments { OnOk result (room.new.fragments ≡ room.old.fragments ++ (named.span ∷ [])) }
     ensures counts { room.new.counts ≡ room.old.counts }
     ensures lists { room.new.lists ≡ room.old.lists }
     ensures queue { room.new.queue ≡ room.old.queue }
+    ensures pieces { room.new.pieces.rows ≡ room.old.pieces.rows }
 {
     let first = room.fragments.len();
     let fragment = take_in(&mut room.fragments, checked, named, 0)?;
@@ -138,7 +140,7 @@ fn begin_list<S: Store>(
 }
 
 // Reads a list's nodes, fragment by fragment, and adds its row.
-#[tactic(auto, using(crate::proofs::ListWalks::listing_none, crate::proofs::ListWalks::listing_few))]
+#[tactic(auto, using(crate::proofs::ListWalks::listing_none))]
 fn read_rest<S: Store>(
     store: &S,
     checked: &CheckedHeader,
@@ -148,12 +150,15 @@ fn read_rest<S: Store>(
     requires few { length room.old.fragments ≤ 2048 }
     requires room { length room.old.lists < 1024 }
     requires held { room.old.fragments ≡ take begun.first room.old.fragments ++ (begun.fragment.span ∷ []) }
-    ensures answer { Rests (S.Store.bytes store.now) checked.now.header.end (take begun.first room.old.fragments) begun room.old.lists room.new.lists room.new.fragments room.old.queue room.new.queue result }
+    requires new { some_of (of_list begun.list room.old.pieces.rows) ≡ false }
+    ensures answer { length room.old.pieces.rows < length room.old.fragments → Rests (S.Store.bytes store.now) checked.now.header.end (take begun.first room.old.fragments) begun room.old.lists room.new.lists room.old.pieces.rows room.new.pieces.rows room.new.fragments room.old.queue room.new.queue result }
     ensures counts { room.new.counts ≡ room.old.counts }
 {
+    let row = room.lists.len();
     let mut fragment = begun.fragment;
     let mut nodes = 0;
     for sequence in 1..=MOST_FRAGMENTS as u32 {
+        begun.put_piece(&mut room.pieces, row, nodes, fragment);
         let part = read_nodes(
             store,
             begun.list,
@@ -260,11 +265,12 @@ fn is_mislabelled<S: Store>(store: &S, fragment: ListFragment, list: u32, sequen
 
 // At a list's first fragment: no list before it has its ID, and the log counts it. Answers its count.
 fn check_first(room: &Room, list: u32, fragment: Span) -> Result<u32, InList>
-    ensures answer { Checked (first_checks room.now.lists (noted room.now.counts.changes.items list) list fragment) result }
+    ensures answer { Checked (first_checks room.now.pieces.rows (noted room.now.counts.changes.items list) list fragment) result }
     ensures count { IfOk result (λ n. (1 ≤ n) × (n ≡ noted room.now.counts.changes.items list)) }
+    ensures new { OnOk result (some_of (of_list list room.now.pieces.rows) ≡ false) }
 {
     let place = fragment.start;
-    if room.has_list(list) {
+    if room.pieces.has(list) {
         return Err(InList {
             fault: ListFault::Twice { place },
             list,

@@ -45,6 +45,7 @@ pub fn read_log<S: Store>(
     ensures room { room.new.counts.room ≡ room.old.counts.room }
     ensures lists { room.new.lists ≡ [] }
     ensures queue { room.new.queue ≡ [] }
+    ensures pieces { room.new.pieces.rows ≡ [] }
 {
     room.clear();
     read_fragments(store, checked, &mut room.fragments, &mut room.counts)

@@ -64,7 +64,7 @@ rising_row before (x ∷ xs) ys (p, a) c = (p, rising_row (before ++ (x ∷ []))
 
 -- list -------------------------------------------------------------------------------------------------------------
 
-nodes_push : (b : List ℕ) (stop p : ℕ) (ns : List Node) (q : ℕ) (n : Node) → Nodes b stop p ns q → Good b stop q n → Nodes b stop p (ns ++ (n ∷ [])) (q + n.size)
+pub nodes_push : (b : List ℕ) (stop p : ℕ) (ns : List Node) (q : ℕ) (n : Node) → Nodes b stop p ns q → Good b stop q n → Nodes b stop p (ns ++ (n ∷ [])) (q + n.size)
 nodes_push b stop p [] q n h g = rw h (g, refl)
 nodes_push b stop p (m ∷ ns) q n (x, h) g = (x, nodes_push b stop (p + m.size) ns q n h g)
 

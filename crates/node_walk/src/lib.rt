@@ -14,8 +14,8 @@ use store::base::Store;
 
 pub mod fragments;
 
-// The ID of a terminator.
-const TERMINATOR: u32 = 0xFF;
+/// The ID of a terminator.
+pub const TERMINATOR: u32 = 0xFF;
 
 /// The node at `place`, or nothing where the fragment's nodes end: under 4 bytes are left before `stop`, or a terminator stands there.
 #[tactic(auto, unfolding(model::specs::Nodes::hands_over))]
@@ -40,8 +40,8 @@ pub fn is_bad(head: &Head, place: u64, stop: u64) -> bool
         || ends_past(stop, place, head.size as u64)
 }
 
-// How many bytes the reference of a node with this head takes.
-fn reference_width(head: &Head) -> usize
+/// How many bytes the reference of a node with this head takes.
+pub fn reference_width(head: &Head) -> usize
     ensures value { result ≡ (if refers head.now.base then start_width head.now.stp + size_width head.now.cb else 0) }
     ensures bound { result ≤ 16 }
 {

@@ -1,4 +1,4 @@
-use Rattle.std.proofs.Common.{◌≡◌, ◌≤◌, ◌⊎◌, length, vec_items}
+use Rattle.std.proofs.Common.{◌≡◌, vec_items}
 use Rattle.model.specs.Section.{Log}
 use Rattle.model.specs.OpenedLists.{named_first}
 use Rattle.tables.specs.Queues.{Held}
@@ -9,7 +9,6 @@ use Rattle.lists_pass.proofs.read_named.Given as goal
 abbrev pub invariant-loop-next : goal.invariant-loop-next
 invariant-loop-next g l =
     (l.room.counts ≡ l.initial.room.counts)
-    × (length l.room.lists ≤ 1024 ⊎ (l.next ≡ 0))
-    × ((log : Log) → Holds log (vec_items l.initial.room.counts.changes) l.initial.room.fragments l.initial.room.lists
+    × ((log : Log) → Holds log (vec_items l.initial.room.counts.changes) l.initial.room.fragments l.initial.room.lists l.initial.room.pieces.rows
     → Held l.initial.room.queue (named_first l.checked.header)
-    → Opening (g.S.Store.bytes l.store) l.checked.header log l.next l.room.lists l.room.fragments l.room.queue)
+    → Opening (g.S.Store.bytes l.store) l.checked.header log l.next l.room.lists l.room.pieces.rows l.room.fragments l.room.queue)
