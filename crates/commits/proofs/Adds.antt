@@ -22,6 +22,7 @@ use Rattle.meaning.proofs.Base.{all_front, DataFits, references}
 use Rattle.meaning.proofs.Members.{flat_append}
 use Rattle.commits.specs.Body.{Right, Body, Tied, up_to}
 use Rattle.commits.specs.Laid.{Laid}
+use Rattle.commits.specs.Parts.{Part, part, node_part, new_parts}
 use Rattle.commits.proofs.Sizes.{length_new_fragment}
 use Rattle.commits.proofs.NodeBack.{Fair, plain_of, referring_of}
 use Rattle.commits.proofs.NodeAdded.{Made, plain_made, referring_made}
@@ -30,7 +31,8 @@ use Rattle.commits.proofs.Longer.{body_longer, body_list, new_list}
 use Rattle.commits.proofs.Ties.{tied_header, tied_push, tied_branch}
 use Rattle.commits.proofs.Store.{stored_written, stored_front, piece_stored}
 use Rattle.commits.proofs.Contents.{taken_push, taken_list, plain_holds, branch_holds, data_holds}
-use Rattle.commits.proofs.Layouts.{found, Addable, node_pushed, with_node_highest, with_node_touched}
+use Rattle.commits.proofs.Parting.{Parting, parting_list, parting_then}
+use Rattle.commits.proofs.Layouts.{found, Addable, node_pushed, pushed_parting, with_node_highest, with_node_touched}
 use Rattle.commits.proofs.Counting.{Counting, counting_push, counting_list, touch_again, touch_other, touch_same}
 use Rattle.commits.proofs.Growth.{Grows, longer_held, pushed_holds, list_holds, either_sum}
 use Rattle.commits.proofs.SameRow.{logs_same, headed_same}
@@ -80,14 +82,14 @@ simple_step : (c : List ℕ) (s : Section) (y : Layout) (ls : List NodeList) (id
     → Drafted c s y ls → Addable s y ls new n → y.end < 2 ^ 64 → y.highest < 2 ^ 32 → y.fragments < 2 ^ 32 → member id (map (λ t. t.id) y.tails) ≡ true
     → ((p : ℕ) → referring 2 (n p ∷ []) ≡ []) → ((p : ℕ) → holds c (n p) ≡ X)
     → (ms : List NodeList) × Drafted (applied c (with_node y id new).writes) s (with_node y id new).layout ms
-    × Grows c y ls (applied c (with_node y id new).writes) (with_node y id new).layout ms (λ whose. cond (eqb id whose) (X ∷ []) [])
+    × Grows c y ls (applied c (with_node y id new).writes) (with_node y id new).layout ms (λ whose. cond (eqb id whose) (X ∷ []) []) (node_part y id new)
 simple_step c s y ls id new n X d a x1 x2 x3 k w what =
     let f = found ls id (subst (λ (z : List Tail). member id (map (λ t. t.id) z) ≡ true) d.laid.tails k) in
     at_split f.pre f.list f.post f.split f.same f.tail'
   where
     goal : ℕ → Type 0
     goal i = (ms : List NodeList) × Drafted (applied c (with_node y i new).writes) s (with_node y i new).layout ms
-        × Grows c y ls (applied c (with_node y i new).writes) (with_node y i new).layout ms (λ whose. cond (eqb i whose) (X ∷ []) [])
+        × Grows c y ls (applied c (with_node y i new).writes) (with_node y i new).layout ms (λ whose. cond (eqb i whose) (X ∷ []) []) (node_part y i new)
 
     at_split : (pre : List NodeList) (l : NodeList) (post : List NodeList) → ls ≡ pre ++ (l ∷ post) → l.id ≡ id → find_tail (map tail_of ls) id ≡ tail_of l → goal id
     at_split pre l post e i t =
@@ -115,22 +117,25 @@ simple_step c s y ls id new n X d a x1 x2 x3 k w what =
                 (tied_push (up_to s.header y.end) pre l p.list post p.first (named_none l p.list (n p.place) p.nodes (w p.place)) t1);
           },
           record {
-            grown = λ x. pushed_holds c s y pre l post new n (with_node y l.id new) X x d1 a1 p what
+            grown = λ x. pushed_holds c s y pre l post new n (with_node y l.id new) (node_part y l.id new) X x d1 a1 p what
                 ∙ ap (λ (z : List NodeList). map (holds c) (nodes_of z x) ++ cond (eqb l.id x) (X ∷ []) []) (sym e);
             known = λ x h. taken_push pre l p.list post x p.same ∙ ap (λ (z : List NodeList). taken x z) (sym e);
-            higher = omega (arith, with_node_highest y l.id new);
+            parting = subst (λ z. Parting y.highest z (with_node y l.id new).layout.highest ms (node_part y l.id new)) (sym e)
+                (subst (λ z. Parting y.highest (pre ++ (l ∷ post)) z ms (node_part y l.id new)) (sym (with_node_highest y l.id new))
+                (pushed_parting c s y n pre l post (with_node y l.id new) (node_part y l.id new) d1 p));
           },
         )
 
 -- the lists after an add: still those of a draft, and grown by what it saves
 abbrev pub Stepped : List ℕ → Section → Layout → List NodeList → Add → Type 0
-Stepped c s y ls a = (ms : List NodeList) × Drafted (applied c (planned y a).writes) s (planned y a).layout ms × Grows c y ls (applied c (planned y a).writes) (planned y a).layout ms (saved_by y a)
+Stepped c s y ls a = (ms : List NodeList) × Drafted (applied c (planned y a).writes) s (planned y a).layout ms
+    × Grows c y ls (applied c (planned y a).writes) (planned y a).layout ms (saved_by y a) (new_parts y a)
 
 -- a node that refers to nothing
 pub plain_step : (c : List ℕ) (s : Section) (y : Layout) (ls : List NodeList) (list id : ℕ) (payload : List ℕ) → Drafted c s y ls → Fine y → Fair id → 4 + length payload ≤ 988
     → member list (map (λ t. t.id) y.tails) ≡ true
     → Stepped c s y ls (plain list id payload)
-unfolding planned referring
+unfolding planned referring new_parts
 plain_step c s y ls list id payload d f i k m =
     simple_step c s y ls list (plain_node id payload) (λ p. plain_of p id payload) (content_of id 0 None payload []) d (record { made = plain_made id payload i k; data_fits = λ p. tt })
     (omega (arith, f.end)) f.highest (omega (arith, f.fragments)) m (λ p. refl) (λ p. plain_holds c p id payload)
@@ -139,7 +144,7 @@ plain_step c s y ls list id payload d f i k m =
 pub data_step : (c : List ℕ) (s : Section) (y : Layout) (ls : List NodeList) (list id : ℕ) (payload content : List ℕ) → Drafted c s y ls → Fine y → Fair id → 16 + length payload ≤ 988
     → 1 ≤ length content → length content ≤ 65536 → member list (map (λ t. t.id) y.tails) ≡ true
     → Stepped c s y ls (with_data list id payload content)
-unfolding planned referring applied
+unfolding planned referring applied new_parts
 data_step c s y ls list id payload content d f i k o z m =
     let E = y.end in
     let h : Header = up_to s.header E in
@@ -177,7 +182,7 @@ data_step c s y ls list id payload content d f i k o z m =
       record {
         grown = λ x. gr.grown x ∙ ap (λ (z : List Content). z ++ cond (eqb list x) (content_of id 1 (Some r) payload content ∷ []) []) (longer_held c s y ls P x d.laid);
         known = gr.known;
-        higher = gr.higher;
+        parting = gr.parting;
       },
     )
   where
@@ -237,7 +242,7 @@ with_list_laid c s y ls list first_id first d f i k u v =
 pub branch_step : (c : List ℕ) (s : Section) (y : Layout) (ls : List NodeList) (list id : ℕ) (payload : List ℕ) (first_id : ℕ) (first : List ℕ) → Drafted c s y ls → Fine y
     → Fair id → 16 + length payload ≤ 988 → Fair first_id → 4 + length first ≤ 988 → y.highest + 1 < 2 ^ 32 → member list (map (λ t. t.id) y.tails) ≡ true
     → Stepped c s y ls (branch list id payload first_id first)
-unfolding planned referring applied
+unfolding planned referring applied new_parts
 branch_step c s y ls list id payload first_id first d f i k j l0 v m =
     let fd = found ls list (subst (λ (z : List Tail). member list (map (λ t. t.id) z) ≡ true) d.laid.tails m) in
     at_split fd.pre fd.list fd.post fd.split fd.same fd.tail'
@@ -278,6 +283,7 @@ branch_step c s y ls list id payload first_id first d f i k j l0 v m =
     goal : ℕ → Type 0
     goal x = (ms : List NodeList) × Drafted (applied c1 (with_node (y1 x) x new).writes) s (with_node (y1 x) x new).layout ms
         × Grows c y ls (applied c1 (with_node (y1 x) x new).writes) (with_node (y1 x) x new).layout ms (λ whose. cond (eqb x whose) (X ∷ []) (cond (eqb (y.highest + 1) whose) (Y ∷ []) []))
+        (part (y.highest + 1) 0 fresh ∷ node_part (y1 x) x new)
 
     at_split : (pre : List NodeList) (l : NodeList) (post : List NodeList) → ls ≡ pre ++ (l ∷ post) → l.id ≡ list → find_tail (map tail_of ls) list ≡ tail_of l → goal list
     at_split pre l post e q t =
@@ -335,7 +341,8 @@ branch_step c s y ls list id payload first_id first d f i k j l0 v m =
           record {
             grown = λ x.
                 let A : List Content = map (holds c) (nodes_of ls x) in
-                let g1 = pushed_holds c1 s (y1 l.id) pre l (post ++ (l2 ∷ [])) new (λ p. referring_of p id 2 fresh payload) (with_node (y1 l.id) l.id new) X x d2 a2 p (λ z. branch_holds c1 z id E payload) in
+                let g1 = pushed_holds c1 s (y1 l.id) pre l (post ++ (l2 ∷ [])) new (λ p. referring_of p id 2 fresh payload) (with_node (y1 l.id) l.id new) (node_part (y1 l.id) l.id new) X x d2 a2 p
+                (λ z. branch_holds c1 z id E payload) in
                 let g2 : map (holds c1) (nodes_of (pre ++ (l ∷ (post ++ (l2 ∷ [])))) x) ≡ A ++ cond (eqb (y.highest + 1) x) (Y ∷ []) []
                 = ap (λ (z : List NodeList). map (holds c1) (nodes_of z x)) (sym (append_assoc pre (l ∷ post) (l2 ∷ [])))
                 ∙ list_holds c c1 (pre ++ (l ∷ post)) l2 Y x (All-weaker (λ m. m.id ≤ y.highest) (λ m. m.id ≢ y.highest + 1) (λ m z w. omega arith) (pre ++ (l ∷ post)) d0.known)
@@ -344,6 +351,16 @@ branch_step c s y ls list id payload first_id first d f i k j l0 v m =
                 g1 ∙ ap (λ (z : List Content). z ++ cond (eqb l.id x) (X ∷ []) []) g2 ∙ either_sum A X Y l.id (y.highest + 1) x (omega arith);
             known = λ x h. taken_push pre l p.list (post ++ (l2 ∷ [])) x p.same ∙ ap (λ (z : List NodeList). taken x z) (sym (append_assoc pre (l ∷ post) (l2 ∷ [])))
                 ∙ taken_list (pre ++ (l ∷ post)) l2 x (omega arith) ∙ ap (λ (z : List NodeList). taken x z) (sym e);
-            higher = omega (arith, with_node_highest (y1 l.id) l.id new);
+            parting =
+                let ps : List Part = part (y.highest + 1) 0 fresh ∷ node_part (y1 l.id) l.id new in
+                let g0 : Parting y.highest (pre ++ (l ∷ post)) (y.highest + 1) ((pre ++ (l ∷ post)) ++ (l2 ∷ [])) (part (y.highest + 1) 0 fresh ∷ [])
+                = parting_list y.highest (pre ++ (l ∷ post)) fresh (plain_of (E + 16) first_id first) (E + 16 + length node) refl
+                (ap (λ z. E + 16 + z) ((plain_made first_id first j l0).size (E + 16))) d0.known in
+                let g1 = parting_then y.highest (y.highest + 1) (y.highest + 1) (pre ++ (l ∷ post)) (pre ++ (l ∷ (post ++ (l2 ∷ [])))) ms
+                (part (y.highest + 1) 0 fresh ∷ []) (node_part (y1 l.id) l.id new)
+                (subst (λ z. Parting y.highest (pre ++ (l ∷ post)) (y.highest + 1) z (part (y.highest + 1) 0 fresh ∷ [])) (append_assoc pre (l ∷ post) (l2 ∷ [])) g0)
+                (pushed_parting c1 s (y1 l.id) (λ p. referring_of p id 2 fresh payload) pre l (post ++ (l2 ∷ [])) (with_node (y1 l.id) l.id new) (node_part (y1 l.id) l.id new) d2 p) in
+                subst (λ z. Parting y.highest z (with_node (y1 l.id) l.id new).layout.highest ms ps) (sym e)
+                (subst (λ z. Parting y.highest (pre ++ (l ∷ post)) z ms ps) (sym (with_node_highest (y1 l.id) l.id new)) g1);
           },
         )

@@ -1,5 +1,5 @@
 -- Numbers that are read from bytes fit into their widths: so do the list IDs and the counts of an accepted file.
-use Rattle.std.proofs.Common.{ℕ, zero, suc, ◌+◌, ◌^◌, ◌<◌, cond, eqb, List, [], ◌∷◌, map, length, get_or, sym, ◌∙◌, subst, inl, inr, pow-suc, arith}
+use Rattle.std.proofs.Common.{ℕ, zero, suc, ◌+◌, ◌-◌, ◌^◌, ◌<◌, ◌≤◌, cond, eqb, List, [], ◌∷◌, map, length, get_or, sym, ◌∙◌, subst, inl, inr, pow-suc, arith}
 use Rattle.std.specs.List.{AllByRecursion}
 use Rattle.std.proofs.lemmas.List.{append-nil}
 use Rattle.std.proofs.lemmas.Bool.{cases_Bool}
@@ -65,17 +65,25 @@ spread_first : (b c : List ℕ) (id i : ℕ) {fs : List Span} {ns : List Node} {
 spread_first b c id i a (within {f = f} h) (m, ms) = subst (λ z. z < 2 ^ 32) m.list (le_below 4 c (f.start + 8) a)
 spread_first b c id i a (across {f = f} ns ms p h o e t u) (m, k) = subst (λ z. z < 2 ^ 32) m.list (le_below 4 c (f.start + 8) a)
 
-greatest_below : {A : Type 0} (f : A → ℕ) (xs : List A) → AllByRecursion (λ x. f x < 2 ^ 32) xs → greatest (map f xs) < 2 ^ 32
+-- the greatest is at most n exactly when each is
+pub greatest_each : {A : Type 0} (f : A → ℕ) (n : ℕ) (xs : List A) → greatest (map f xs) ≤ n → AllByRecursion (λ x. f x ≤ n) xs
 unfolding greatest
-greatest_below f [] a = omega arith
-greatest_below f (x ∷ xs) (p, a) = let r = greatest_below f xs a in omega arith
+greatest_each f n [] k = tt
+greatest_each f n (x ∷ xs) k = (omega arith, greatest_each f n xs (omega arith))
+
+pub greatest_most : {A : Type 0} (f : A → ℕ) (n : ℕ) (xs : List A) → AllByRecursion (λ x. f x ≤ n) xs → greatest (map f xs) ≤ n
+unfolding greatest
+greatest_most f n [] a = omega arith
+greatest_most f n (x ∷ xs) (p, a) = let r = greatest_most f n xs a in omega arith
 
 -- the highest ID known, and each list's count
 pub blank_highest : (b : List ℕ) (s : Section) → Bytes b → Means b s → (blank s).highest < 2 ^ 32
 blank_highest b s a m =
     let sm = log_small b s.header s.log a m.log in
-    let x = greatest_below (λ (e : Entry). e.source) (flat s.log.transactions) (All-weaker Small (λ e. e.source < 2 ^ 32) (λ e q. q.0) (flat s.log.transactions) sm) in
-    let y = greatest_below (λ (l : NodeList). l.id) s.lists (All-weaker (Stands b s.header s.log) (λ l. l.id < 2 ^ 32) (λ l k. spread_first b b l.id 0 a k.part.spread k.part.marks) s.lists m.lists) in
+    let most : ℕ = 2 ^ 32 - 1 in
+    let x = greatest_most (λ (e : Entry). e.source) most (flat s.log.transactions) (All-weaker Small (λ e. e.source ≤ most) (λ e q. let i = q.0 in omega arith) (flat s.log.transactions) sm) in
+    let y = greatest_most (λ (l : NodeList). l.id) most s.lists
+    (All-weaker (Stands b s.header s.log) (λ l. l.id ≤ most) (λ l k. let i = spread_first b b l.id 0 a k.part.spread k.part.marks in omega arith) s.lists m.lists) in
     omega arith
 
 pub blank_counts : (b : List ℕ) (s : Section) → Bytes b → Means b s → AllByRecursion (λ t. t.count < 2 ^ 32) (blank s).tails

@@ -5,7 +5,8 @@ use Rattle.std.proofs.lemmas.Bool.Decides.{nat_tests}
 use Rattle.model.specs.Bytes.{applied, Bytes}
 use Rattle.model.specs.Faults.{Outcome, done}
 use Rattle.model.specs.Nodes.{Node}
-use Rattle.model.specs.Section.{Log, NodeList, Section}
+use Rattle.model.specs.References.{span}
+use Rattle.model.specs.Section.{Log, NodeList, Section, last_of, list_fragments}
 use Rattle.model.specs.OpenedLists.{taken}
 use Rattle.model.specs.Opened.{opened}
 use Rattle.model.specs.Means.{Pairwise, Means}
@@ -18,9 +19,15 @@ use Rattle.model.specs.Contents.{holds, held_in, held, saved}
 use Rattle.model.specs.Laws.{DoneAdds, add_writes, CommitReads}
 use Rattle.meaning.proofs.Base.{Clean}
 use Rattle.meaning.proofs.Members.{In, all_in}
+use Rattle.meaning.proofs.ReadQueue.{Stock}
 use Rattle.meaning.proofs.MeantOpens.{means_opens}
 use Rattle.meaning.proofs.OpensMeans.{opens_means}
+use Rattle.commits.specs.Laid.{Laid}
+use Rattle.commits.specs.Parts.{parts}
 use Rattle.commits.proofs.HeadBack.{headed}
+use Rattle.commits.proofs.Parting.{Parting}
+use Rattle.commits.proofs.Counting.{Counting}
+use Rattle.commits.proofs.LogWritten.{last_then, used_then}
 use Rattle.commits.proofs.Contents.{lists_held}
 use Rattle.commits.proofs.Drafts.{blank_drafted, adds_drafted}
 use Rattle.commits.proofs.DraftCommitted.{commit_done}
@@ -34,7 +41,7 @@ taken_in (k ∷ ls) id e = elim (cases_Bool (eqb k.id id)) [
   | inr x ↦ let (l, i, q) = taken_in ls id (rw x at e) in (l, inr i, q)
 ]
 
-in_taken : (ls : List NodeList) (l : NodeList) (id : ℕ) → In l ls → l.id ≡ id → taken id ls ≡ true
+pub in_taken : (ls : List NodeList) (l : NodeList) (id : ℕ) → In l ls → l.id ≡ id → taken id ls ≡ true
 in_taken [] l id i e = absurd i
 in_taken (k ∷ ls) l id (inl q) e =
     let u : k.id ≡ l.id = ap (λ (m : NodeList). m.id) q in
@@ -65,7 +72,7 @@ nodes_in (k ∷ ls) l id (d, ds) (inr i) e = elim (cases_Bool (eqb k.id id)) [
   | inr x ↦ rw x (nodes_in ls l id ds i e)
 ]
 
-taken_same : (S T : List NodeList) (id : ℕ) → ((l : NodeList) → In l S → In l T) → ((l : NodeList) → In l T → In l S) → taken id T ≡ taken id S
+pub taken_same : (S T : List NodeList) (id : ℕ) → ((l : NodeList) → In l S → In l T) → ((l : NodeList) → In l T → In l S) → taken id T ≡ taken id S
 taken_same S T id f g = elim (cases_Bool (taken id S)) [
   | inl e ↦ let (l, i, q) = taken_in S id e in in_taken T l id (f l i) q ∙ sym e
   | inr e ↦ elim (cases_Bool (taken id T)) [
@@ -90,6 +97,15 @@ pub record ReadAfter (b c : List ℕ) (s : Section) (adds : List Add) (guid : Li
   pub transactions : log.transactions ≡ s.log.transactions ++ (count_entries (layout s adds) ∷ [])
   pub grown : (id : ℕ) → map (holds c) (nodes_of lists id) ≡ map (holds b) (nodes_of s.lists id) ++ saved (blank s) adds id
   pub known : (id : ℕ) → id ≤ (blank s).highest → taken id lists ≡ taken id s.lists
+  -- the lists of the draft, of which these are the same in some order
+  pub draft : List NodeList
+  pub laid : Laid (applied b (add_writes (blank s) adds)) s (layout s adds) draft
+  pub counting : Counting s (layout s adds).touched (layout s adds).highest draft
+  pub parting : Parting (blank s).highest s.lists (layout s adds).highest draft (parts (blank s) adds)
+  pub stock : Stock (headed s.header (logged s (layout s adds)).end guid) log draft lists
+  pub last : last_of (span 0 0) log.fragments ≡ last_then s (layout s adds)
+  pub used : log.used ≡ used_then s (layout s adds)
+  pub fragments : length (log.fragments ++ list_fragments draft) ≡ (logged s (layout s adds)).fragments
 
 pub read_after : (b : List ℕ) (ceiling : ℕ) (s : Section) (adds : List Add) (guid : List ℕ) → Bytes b → length guid ≡ 16 → Means b s → DoneAdds ceiling (blank s) adds → Clean (commit_checks ceiling s adds guid)
     → ReadAfter b (applied (applied b (add_writes (blank s) adds)) (committing (applied b (add_writes (blank s) adds)) s adds guid)) s adds guid
@@ -107,6 +123,14 @@ read_after b ceiling s adds guid a g m k cs =
       transactions = r.transactions;
       grown = λ id. ap (λ (z : List Node). map (holds c2) z) (nodes_same ms T id st.from st.to r.means.ids_differ st.ids) ∙ lists_held c c2 ms id r.data_same ∙ gr.grown id;
       known = λ id h. taken_same ms T id st.from st.to ∙ gr.known id h;
+      draft = ms;
+      laid = d.laid;
+      counting = d.counting;
+      parting = gr.parting;
+      stock = st;
+      last = r.last;
+      used = r.used;
+      fragments = r.fragments;
     }
 
 -- as the model states it

@@ -47,7 +47,7 @@ nodes_held b c (n ∷ ns) a = elim (cases_Bool (eqb n.base 1 && present n.refere
       cc (u, nodes_held b c ns r)
 ]
 
-nodes_data : (P : Span → Type 0) (ls : List NodeList) (id : ℕ) → AllByRecursion P (data_spans ls) → AllByRecursion P (references (nodes_of ls id))
+pub nodes_data : (P : Span → Type 0) (ls : List NodeList) (id : ℕ) → AllByRecursion P (data_spans ls) → AllByRecursion P (references (nodes_of ls id))
 unfolding nodes_of referring
 nodes_data P [] id a = tt
 nodes_data P (l ∷ ls) id a =

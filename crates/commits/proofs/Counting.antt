@@ -9,7 +9,7 @@ use Rattle.model.specs.declared.types.Entry.{Entry}
 use Rattle.model.specs.LogFragments.{entry}
 use Rattle.model.specs.Section.{NodeList, Section, flat, latest, count_in}
 use Rattle.model.specs.Means.{Pairwise, CountsLists, Rising}
-use Rattle.model.specs.Layouts.{member, touch}
+use Rattle.model.specs.Layouts.{member, touch, blank}
 use Rattle.meaning.proofs.Base.{all_front, pairs_split}
 use Rattle.commits.proofs.Ties.{map_instead}
 use Rattle.meaning.proofs.Members.{flat_push}
@@ -162,6 +162,8 @@ pub record Counting (s : Section) (ids : List ℕ) (highest : ℕ) (ls : List No
   pub known : AllByRecursion (λ id. member id (map (λ l. l.id) ls) ≡ true) ids
   pub counts : AllByRecursion (Counts s.log.transactions ids) ls
   pub sources : AllByRecursion (λ e. e.source ≤ highest) (flat s.log.transactions)
+  -- the highest ID known is a touched list's, or it is the one before the draft
+  pub raised : (member highest ids ≡ true) ⊎ (highest ≡ (blank s).highest)
 
 touch_all : (P : ℕ → Type 0) (id : ℕ) (ids : List ℕ) → P id → AllByRecursion P ids → AllByRecursion P (touch id ids)
 touch_all P id ids p a = elim (cases_Bool (member id ids)) [
@@ -183,6 +185,12 @@ member_right x (y ∷ xs) ys e = elim (cases_Bool (eqb y x)) [
   | inr q ↦ rw q (member_right x xs ys e)
 ]
 
+touch_keeps : (x id : ℕ) (ids : List ℕ) → member x ids ≡ true → member x (touch id ids) ≡ true
+touch_keeps x id ids e = elim (cases_Bool (member id ids)) [
+  | inl q ↦ rw q e
+  | inr q ↦ rw q (member_left x ids (id ∷ []) e)
+]
+
 member_middle : (pre : List NodeList) (l : NodeList) (post : List NodeList) → member l.id (map (λ l. l.id) (pre ++ (l ∷ post))) ≡ true
 member_middle [] l post = let q : eqb l.id l.id ≡ true = grind (arith, nat_tests) in rw q
 member_middle (m ∷ pre) l post = elim (cases_Bool (eqb m.id l.id)) [
@@ -199,6 +207,10 @@ counting_push s ids highest pre l l' post d e n c =
       known = subst (λ z. AllByRecursion (λ id. member id z ≡ true) (touch l.id ids)) (sym q) (touch_all (λ id. member id (map (λ l. l.id) (pre ++ (l ∷ post))) ≡ true) l.id ids (member_middle pre l post) c.known);
       counts = counts_push s.log.transactions ids pre l l' post d e n c.counts;
       sources = c.sources;
+      raised = elim c.raised [
+        | inl u ↦ inl (touch_keeps highest l.id ids u)
+        | inr u ↦ inr u
+      ];
     }
 
 pub latest_absent : (id highest n : ℕ) (es : List Entry) → highest < id → AllByRecursion (λ e. e.source ≤ highest) es → latest id n es ≡ n
@@ -220,4 +232,5 @@ counting_list s ids highest ls l d e n c =
           (All-weaker (λ id. member id (map (λ l. l.id) ls) ≡ true) (λ id. member id (map (λ l. l.id) ls ++ (l.id ∷ [])) ≡ true) (λ id x. member_left id (map (λ l. l.id) ls) (l.id ∷ []) x) ids c.known));
       counts = counts_list s.log.transactions ids ls l (All-weaker (λ m. m.id ≤ highest) (λ m. m.id ≢ l.id) (λ m x y. omega arith) ls d) (omega arith) c.counts;
       sources = All-weaker (λ e. e.source ≤ highest) (λ e. e.source ≤ highest + 1) (λ e x. omega arith) (flat s.log.transactions) c.sources;
+      raised = inl (subst (λ z. member z (touch l.id ids) ≡ true) e (touch_same l.id ids));
     }

@@ -9,10 +9,10 @@ use Rattle.model.specs.declared.types.Span.{Span}
 use Rattle.model.specs.declared.types.Entry.{Entry}
 use Rattle.model.specs.declared.types.Header.{Header}
 use Rattle.model.specs.Bytes.{Write, applied}
-use Rattle.model.specs.References.{end_of}
+use Rattle.model.specs.References.{span, end_of}
 use Rattle.model.specs.Headers.{header_span}
 use Rattle.model.specs.LogFragments.{entry, sentinel}
-use Rattle.model.specs.Section.{Log, NodeList, Section, flat, count_in, list_fragments}
+use Rattle.model.specs.Section.{Log, NodeList, Section, flat, last_of, count_in, list_fragments}
 use Rattle.model.specs.Means.{Apart, Pairwise, Headed, data_spans, Means}
 use Rattle.model.specs.Layouts.{Add, Tail, Layout, tail_of, member, find_tail}
 use Rattle.model.specs.Saving.{layout}
@@ -30,27 +30,27 @@ use Rattle.commits.proofs.LogAdded.{Follows}
 use Rattle.commits.proofs.Counting.{Counts, counted_after, rising_entries, counts_lists}
 use Rattle.commits.proofs.Contents.{DataSame}
 use Rattle.commits.proofs.Adds.{Drafted, Fine}
-use Rattle.commits.proofs.LogWritten.{log_done}
+use Rattle.commits.proofs.LogWritten.{last_then, used_then, log_done}
 use Rattle.commits.proofs.SameRow.{headed_same, heading_same}
 use Rattle.commits.proofs.HeaderWritten.{head_kept, commit_head}
 use Rattle.commits.proofs.Around.{other_same, Kept}
 
 -- each list's tail is found by its ID
-tails_count : (ls : List NodeList) → Pairwise (λ l m. l.id ≢ m.id) ls → AllByRecursion (λ l. (find_tail (map tail_of ls) l.id).count ≡ length l.nodes) ls
+pub tails_own : (ls : List NodeList) → Pairwise (λ l m. l.id ≢ m.id) ls → AllByRecursion (λ l. find_tail (map tail_of ls) l.id ≡ tail_of l) ls
 unfolding find_tail
-tails_count [] p = tt
-tails_count (m ∷ ls) (p, ps) =
+tails_own [] p = tt
+tails_own (m ∷ ls) (p, ps) =
     let q : eqb m.id m.id ≡ true = grind (arith, nat_tests) in
-    let own : (find_tail (map tail_of (m ∷ ls)) m.id).count ≡ length m.nodes = ap (λ z. (cond z (tail_of m) (find_tail (map tail_of ls) m.id)).count) q in (
+    let own : find_tail (map tail_of (m ∷ ls)) m.id ≡ tail_of m = ap (λ z. cond z (tail_of m) (find_tail (map tail_of ls) m.id)) q in (
       own,
-      all_both (λ l. m.id ≢ l.id) (λ l. (find_tail (map tail_of ls) l.id).count ≡ length l.nodes) (λ l. (find_tail (map tail_of (m ∷ ls)) l.id).count ≡ length l.nodes) ls
+      all_both (λ l. m.id ≢ l.id) (λ l. find_tail (map tail_of ls) l.id ≡ tail_of l) (λ l. find_tail (map tail_of (m ∷ ls)) l.id ≡ tail_of l) ls
           (λ l n e.
           let f = ne_eqb m.id l.id n in
-          ap (λ z. (cond z (tail_of m) (find_tail (map tail_of ls) l.id)).count) f ∙ e) p (tails_count ls ps),
+          ap (λ z. cond z (tail_of m) (find_tail (map tail_of ls) l.id)) f ∙ e) p (tails_own ls ps),
     )
 
 -- what holds of each list's ID holds of an ID among them
-from_member : (P : ℕ → Type 0) (id : ℕ) (ls : List NodeList) → member id (map (λ l. l.id) ls) ≡ true → AllByRecursion (λ l. P l.id) ls → P id
+pub from_member : (P : ℕ → Type 0) (id : ℕ) (ls : List NodeList) → member id (map (λ l. l.id) ls) ≡ true → AllByRecursion (λ l. P l.id) ls → P id
 from_member P id [] e a = absurd (grind arith)
 from_member P id (l ∷ ls) e (p, a) = elim (cases_Bool (eqb l.id id)) [
   | inl x ↦ let q : l.id ≡ id = grind (arith, nat_tests) in subst P q p
@@ -77,7 +77,9 @@ draft_follows c s y ls d =
     let count : ℕ → ℕ = λ id. (find_tail y.tails id).count in
     let k = d.counting in
     let each : AllByRecursion (λ l. count l.id ≡ length l.nodes) ls
-    = subst (λ (z : List Tail). AllByRecursion (λ l. (find_tail z l.id).count ≡ length l.nodes) ls) (sym d.laid.tails) (tails_count ls d.laid.body.ids_differ) in
+    = subst (λ (z : List Tail). AllByRecursion (λ l. (find_tail z l.id).count ≡ length l.nodes) ls) (sym d.laid.tails)
+    (All-weaker (λ l. find_tail (map tail_of ls) l.id ≡ tail_of l) (λ l. (find_tail (map tail_of ls) l.id).count ≡ length l.nodes) (λ l e. ap (λ (t : Tail). t.count) e) ls
+    (tails_own ls d.laid.body.ids_differ)) in
     let rise : AllByRecursion (λ l. member l.id T ≡ true → count_in ts l.id < count l.id) ls
     = all_both (Counts ts T) (λ l. count l.id ≡ length l.nodes) (λ l. member l.id T ≡ true → count_in ts l.id < count l.id) ls (λ l u v w. above ts T count l u v w) k.counts each in
     let up : AllByRecursion (λ id. count_in ts id < count id) T
@@ -136,6 +138,9 @@ commit_bounds ceiling s adds guid h c =
 pub record Committed (c c2 : List ℕ) (s : Section) (y : Layout) (ls : List NodeList) (guid : List ℕ) : Type 0 where
   pub log : Log
   pub transactions : log.transactions ≡ s.log.transactions ++ (count_entries y ∷ [])
+  pub last : last_of (span 0 0) log.fragments ≡ last_then s y
+  pub used : log.used ≡ used_then s y
+  pub fragments : length (log.fragments ++ list_fragments ls) ≡ (logged s y).fragments
   pub means : Means c2 (record { header = headed s.header (logged s y).end guid; log = log; lists = ls })
   pub data_same : AllByRecursion (DataSame c c2) (data_spans ls)
 
@@ -168,10 +173,10 @@ commit_done c ceiling s adds ls guid d f g k =
     let q : applied c ((logged s y).writes ++ (header_write c s.header end guid ∷ [])) ≡ c2 = applied_row c (logged s y).writes (header_write c s.header end guid ∷ []) ∙ ap (λ (z : Write). applied c1 (z ∷ [])) hw in
     let (e2, r2) = head_rest c1 s.header end guid a1.whole g in
     let M = commit_head c1 s L.log ls end guid a1 g n.count n.generation n.end L.logs L.body (tied_header (up_to s.header y.end) H ls refl d.tied)
-    (subst (λ (z : List (List Entry)). AllByRecursion (λ l. length l.nodes ≡ count_in z l.id) ls) (sym L.transactions) counted) (omega (arith, d.laid.lists, f.lists)) L.few in
+    (subst (λ (z : List (List Entry)). AllByRecursion (λ l. length l.nodes ≡ count_in z l.id) ls) (sym L.transactions) counted) (omega (arith, d.laid.lists, f.lists)) (omega (arith, L.fragments, L.few)) in
     let far : AllByRecursion (λ r. Apart L.last r × Apart header_span r) (data_spans ls)
     = all_both (Apart L.last) (λ r. AllByRecursion (Apart r) (header_span ∷ (gs ++ lf))) (λ r. Apart L.last r × Apart header_span r) (data_spans ls) (λ r u v. (u, λ i x z. v.0 i z x)) L.data_apart d.laid.body.data_apart in
     let D : AllByRecursion (DataSame c c2) (data_spans ls)
     = all_both (λ r. end_of r ≤ y.end) (λ r. Apart L.last r × Apart header_span r) (DataSame c c2) (data_spans ls)
     (λ r u v. (omega arith, omega arith, λ i x z. other_same c c1 y.end L.last L.place 0 0 B r v.0 u i x z ∙ head_kept c1 c2 r r2 v.1 i x z)) d.laid.body.data_inside far in
-    subst (λ (z : List ℕ). Committed c z s y ls guid) (sym q) (record { log = L.log; transactions = L.transactions; means = M; data_same = D })
+    subst (λ (z : List ℕ). Committed c z s y ls guid) (sym q) (record { log = L.log; transactions = L.transactions; last = L.end'; used = L.used; fragments = L.fragments; means = M; data_same = D })

@@ -19,16 +19,18 @@ use Rattle.model.specs.Saving.{Plan}
 use Rattle.model.specs.Contents.{Content, holds}
 use Rattle.meaning.proofs.Base.{DataFits, references}
 use Rattle.commits.specs.Laid.{Laid}
+use Rattle.commits.specs.Parts.{Part}
 use Rattle.commits.proofs.Rows.{all_both}
 use Rattle.commits.proofs.Store.{length_written, same_written}
 use Rattle.commits.proofs.Contents.{DataSame, nodes_held, lists_held, nodes_push, nodes_list}
+use Rattle.commits.proofs.Parting.{Parting}
 use Rattle.commits.proofs.Layouts.{Addable, Pushed}
 
--- each list holds what it held and then what is new for it; no ID that was known before names a list that was not there
-pub record Grows (c : List ℕ) (y : Layout) (ls : List NodeList) (c' : List ℕ) (y' : Layout) (ms : List NodeList) (new : ℕ → List Content) : Type 0 where
+-- each list holds what it held and then what is new for it, and has the parts ps more; no ID that was known before names a list that was not there
+pub record Grows (c : List ℕ) (y : Layout) (ls : List NodeList) (c' : List ℕ) (y' : Layout) (ms : List NodeList) (new : ℕ → List Content) (ps : List Part) : Type 0 where
   pub grown : (id : ℕ) → map (holds c') (nodes_of ms id) ≡ map (holds c) (nodes_of ls id) ++ new id
   pub known : (id : ℕ) → id ≤ y.highest → taken id ms ≡ taken id ls
-  pub higher : y.highest ≤ y'.highest
+  pub parting : Parting y.highest ls y'.highest ms ps
 
 -- data that ends by the draft's end is as it was, where only what is behind that was written
 pub longer_held : (c : List ℕ) (s : Section) (y : Layout) (ls : List NodeList) (new : List ℕ) (id : ℕ) → Laid c s y ls → map (holds (written c y.end new)) (nodes_of ls id) ≡ map (holds c) (nodes_of ls id)
@@ -39,10 +41,10 @@ longer_held c s y ls new id d =
     lists_held c c' ls id (All-weaker (λ r. end_of r ≤ y.end) (DataSame c c') (λ r x. (omega arith, omega arith, same_written c y.end new r.start (end_of r) wh (inl x))) (data_spans ls) d.body.data_inside)
 
 -- what the lists hold with one node more, if it holds X in the row before
-pub pushed_holds : (c : List ℕ) (s : Section) (y : Layout) (pre : List NodeList) (l : NodeList) (post : List NodeList) (new : List ℕ) (n : ℕ → Node) (P : Plan) (X : Content) (id : ℕ)
-    → Laid c s y (pre ++ (l ∷ post)) → Addable s y (pre ++ (l ∷ post)) new n → (q : Pushed c s y n pre l post P) → ((p : ℕ) → holds c (n p) ≡ X)
+pub pushed_holds : (c : List ℕ) (s : Section) (y : Layout) (pre : List NodeList) (l : NodeList) (post : List NodeList) (new : List ℕ) (n : ℕ → Node) (P : Plan) (ps : List Part) (X : Content) (id : ℕ)
+    → Laid c s y (pre ++ (l ∷ post)) → Addable s y (pre ++ (l ∷ post)) new n → (q : Pushed c s y n pre l post P ps) → ((p : ℕ) → holds c (n p) ≡ X)
     → map (holds (applied c P.writes)) (nodes_of (pre ++ (q.list ∷ post)) id) ≡ map (holds c) (nodes_of (pre ++ (l ∷ post)) id) ++ cond (eqb l.id id) (X ∷ []) []
-pushed_holds c s y pre l post new n P X id d a q what =
+pushed_holds c s y pre l post new n P ps X id d a q what =
     let ls : List NodeList = pre ++ (l ∷ post) in
     let c' : List ℕ = applied c P.writes in
     let F : Span → Type 0 = DataFits y.end (s.log.fragments ++ list_fragments ls) in

@@ -1,7 +1,7 @@
 -- One node more, as a layout plans it.
 use Rattle.std.proofs.Common.{◌≡◌, ℕ, ◌+◌, ◌-◌, ◌%◌, ◌^◌, ◌<◌, ◌≤◌, true, false, eqb, leb, ◌≢◌, List, [], ◌∷◌, ◌++◌, map, length, replicate, sym, refl, ap, ◌∙◌, subst, inl, inr, arith}
 use Rattle.std.specs.List.{AllByRecursion}
-use Rattle.std.proofs.lemmas.List.{length-append, get_or_append_left}
+use Rattle.std.proofs.lemmas.List.{append-nil, length-append, get_or_append_left}
 use Rattle.std.proofs.lemmas.Bool.{cases_Bool, ne_eqb}
 use Rattle.std.proofs.lemmas.Bool.Decides.{nat_tests}
 use Rattle.std.proofs.ByRecursion.{All-append, All-weaker}
@@ -20,12 +20,14 @@ use Rattle.model.specs.Laws.{last_fragment}
 use Rattle.meaning.proofs.Base.{all_front, DataFits, references}
 use Rattle.commits.specs.Body.{Right, Body, with_one, with_fragment, up_to}
 use Rattle.commits.specs.Laid.{Laid}
+use Rattle.commits.specs.Parts.{Part, part, node_part}
 use Rattle.commits.proofs.Sizes.{length_new_fragment}
 use Rattle.commits.proofs.Store.{applied_row}
 use Rattle.meaning.proofs.Growth.{last_push, spread_fragment}
 use Rattle.commits.proofs.Rows.{flat_instead}
 use Rattle.commits.proofs.NodeAdded.{Made, ended, spilt}
 use Rattle.commits.proofs.Bodies.{body_fits, body_spill, row_old}
+use Rattle.commits.proofs.Parting.{PartedTo, parted_push, parted_spill, LengthenedAs, Parting, parting_push}
 use Rattle.commits.proofs.Around.{Kept}
 
 -- the list of a tail -------------------------------------------------------------------------------------------------
@@ -87,13 +89,22 @@ with_fits y id new t e f = rw (e, f)
 with_spills : (y : Layout) (id : ℕ) (new : List ℕ) (t : Tail) → find_tail y.tails id ≡ t → leb (t.free + length new) (nodes_to t.fragment) ≡ false → with_node y id new ≡ spilling y id new t
 with_spills y id new t e f = rw (e, f)
 
--- what a plan for a node makes of the lists pre, l, post: l has one node more
-pub record Pushed (c : List ℕ) (s : Section) (y : Layout) (n : ℕ → Node) (pre : List NodeList) (l : NodeList) (post : List NodeList) (p : Plan) : Type 0 where
+part_fits : (y : Layout) (id : ℕ) (new : List ℕ) (t : Tail) → find_tail y.tails id ≡ t → leb (t.free + length new) (nodes_to t.fragment) ≡ true → node_part y id new ≡ []
+part_fits y id new t e f = rw (e, f)
+
+part_spills : (y : Layout) (id : ℕ) (new : List ℕ) (t : Tail) → find_tail y.tails id ≡ t → leb (t.free + length new) (nodes_to t.fragment) ≡ false
+    → node_part y id new ≡ part id t.count (span y.end 1024) ∷ []
+part_spills y id new t e f = rw (e, f)
+
+-- what a plan for a node makes of the lists pre, l, post: l has one node more, and the parts ps
+pub record Pushed (c : List ℕ) (s : Section) (y : Layout) (n : ℕ → Node) (pre : List NodeList) (l : NodeList) (post : List NodeList) (p : Plan) (ps : List Part) : Type 0 where
   pub list : NodeList
   pub place : ℕ
   pub same : list.id ≡ l.id
   pub nodes : list.nodes ≡ l.nodes ++ (n place ∷ [])
   pub first : first_of list ≡ first_of l
+  pub parts : AllByRecursion (λ x. x.list ≡ l.id) ps
+  pub lengthened : LengthenedAs l.id l list ps
   pub laid : Laid (applied c p.writes) s p.layout (pre ++ (list ∷ post))
   pub rises : y.end ≤ p.layout.end
   pub kept : AllByRecursion (Kept c (applied c p.writes)) (header_span ∷ s.log.fragments)
@@ -107,7 +118,7 @@ pub record Addable (s : Section) (y : Layout) (ls : List NodeList) (new : List �
 
 pushed_fits : (c : List ℕ) (s : Section) (y : Layout) (pre : List NodeList) (l : NodeList) (post : List NodeList) (new : List ℕ) (n : ℕ → Node)
     → Laid c s y (pre ++ (l ∷ post)) → Addable s y (pre ++ (l ∷ post)) new n → l.free + length new ≤ nodes_to (last_fragment l.fragments)
-    → Pushed c s y n pre l post (fitting y l.id new (tail_of l))
+    → Pushed c s y n pre l post (fitting y l.id new (tail_of l)) []
 unfolding applied
 pushed_fits c s y pre l post new n d a k =
     let l' : NodeList = with_one l (n l.free) (l.free + length new) in
@@ -122,6 +133,9 @@ pushed_fits c s y pre l post new n d a k =
       same = refl;
       nodes = refl;
       first = refl;
+      parts = tt;
+      lengthened = λ qs h. subst (λ z. PartedTo l.id 0 l.fragments (l.nodes ++ (n l.free ∷ [])) (qs ++ []) (l.free + z)) (a.made.size l.free)
+          (subst (λ z. PartedTo l.id 0 l.fragments (l.nodes ++ (n l.free ∷ [])) z (l.free + (n l.free).size)) (sym (append-nil qs)) (parted_push l.id (n l.free) h (a.made.place l.free)));
       laid = record {
         body = bd.0;
         tails = ap (λ z. with_tail z y.tails) (sym t) ∙ ap (λ z. with_tail (tail_of l') z) d.tails ∙ tails_with l' pre l post refl d.body.ids_differ;
@@ -154,7 +168,7 @@ count_old gs pre l post =
 
 pushed_spills : (c : List ℕ) (s : Section) (y : Layout) (pre : List NodeList) (l : NodeList) (post : List NodeList) (new : List ℕ) (n : ℕ → Node)
     → Laid c s y (pre ++ (l ∷ post)) → Addable s y (pre ++ (l ∷ post)) new n → y.end < 2 ^ 64 → y.highest < 2 ^ 32 → y.fragments < 2 ^ 32
-    → Pushed c s y n pre l post (spilling_at y l.id new (tail_of l) (length l.fragments))
+    → Pushed c s y n pre l post (spilling_at y l.id new (tail_of l) (length l.fragments)) (part l.id (length l.nodes) (span y.end 1024) ∷ [])
 pushed_spills c s y pre l post new n d a x1 x2 x3 =
     let E = y.end in
     let h : Header = up_to s.header E in
@@ -181,6 +195,7 @@ pushed_spills c s y pre l post new n d a x1 x2 x3 =
     let q : applied c (spilling_at y l.id new (tail_of l) (length l.fragments)).writes
     ≡ spilt c E (nf ++ pad) l.free (nodes_to (last_fragment l.fragments))
     = applied_spill c (put E (nf ++ pad)) (ended l.free (nodes_to (last_fragment l.fragments))) (put (nodes_to (last_fragment l.fragments)) (span_bytes fresh)) in
+    let none : 0 + length l.nodes ≡ length l.nodes = omega arith in
     let bd = body_spill c h e gs pre l post new pad n a.made d.body (omega arith) (omega arith) (omega arith) (omega arith) (a.data_fits (E + 16)) in
     record {
       list = l';
@@ -188,6 +203,10 @@ pushed_spills c s y pre l post new n d a x1 x2 x3 =
       same = refl;
       nodes = refl;
       first = get_or_append_left l.fragments (fresh ∷ []) (span 0 0) 0 some;
+      parts = (refl, tt);
+      lengthened = λ qs h. subst (λ z. PartedTo l.id 0 (l.fragments ++ (fresh ∷ [])) (l.nodes ++ (n (E + 16) ∷ [])) (qs ++ (part l.id (length l.nodes) fresh ∷ [])) (E + 16 + z)) (a.made.size (E + 16))
+          (subst (λ z. PartedTo l.id 0 (l.fragments ++ (fresh ∷ [])) (l.nodes ++ (n (E + 16) ∷ [])) (qs ++ (part l.id z fresh ∷ [])) (E + 16 + (n (E + 16)).size)) none
+          (parted_spill l.id fresh (n (E + 16)) h (a.made.place (E + 16))));
       laid = record {
         body = subst (λ z. Body z (up_to s.header e) gs (pre ++ (l' ∷ post))) (sym q) bd.0;
         tails = ap (λ z. with_tail z y.tails) (sym t) ∙ ap (λ z. with_tail (tail_of l') z) d.tails ∙ tails_with l' pre l post refl d.body.ids_differ;
@@ -203,16 +222,26 @@ pushed_spills c s y pre l post new n d a x1 x2 x3 =
 -- a plan for a node, done, gives its list one node more
 pub node_pushed : (c : List ℕ) (s : Section) (y : Layout) (pre : List NodeList) (l : NodeList) (post : List NodeList) (new : List ℕ) (n : ℕ → Node)
     → Laid c s y (pre ++ (l ∷ post)) → Addable s y (pre ++ (l ∷ post)) new n → y.end < 2 ^ 64 → y.highest < 2 ^ 32 → y.fragments < 2 ^ 32
-    → find_tail y.tails l.id ≡ tail_of l → Pushed c s y n pre l post (with_node y l.id new)
+    → find_tail y.tails l.id ≡ tail_of l → Pushed c s y n pre l post (with_node y l.id new) (node_part y l.id new)
 node_pushed c s y pre l post new n d a x1 x2 x3 e = elim (cases_Bool (leb (l.free + length new) (nodes_to (last_fragment l.fragments)))) [
-  | inl f ↦ subst (λ p. Pushed c s y n pre l post p) (sym (with_fits y l.id new (tail_of l) e f)) (pushed_fits c s y pre l post new n d a (grind (arith, nat_tests)))
+  | inl f ↦
+      subst (λ ps. Pushed c s y n pre l post (with_node y l.id new) ps) (sym (part_fits y l.id new (tail_of l) e f))
+      (subst (λ p. Pushed c s y n pre l post p []) (sym (with_fits y l.id new (tail_of l) e f)) (pushed_fits c s y pre l post new n d a (grind (arith, nat_tests))))
   | inr f ↦
       let (r0, r1) = all_front (Right c (up_to s.header y.end)) pre (l ∷ post) d.body.lists in
       let some = spread_fragment c r1.0.part.spread in
       let k : length l.fragments ≡ length l.fragments - 1 + 1 = omega arith in
-      subst (λ p. Pushed c s y n pre l post p) (sym (with_spills y l.id new (tail_of l) e f))
-      (subst (λ k. Pushed c s y n pre l post (spilling_at y l.id new (tail_of l) k)) k (pushed_spills c s y pre l post new n d a x1 x2 x3))
+      let ps : List Part = part l.id (length l.nodes) (span y.end 1024) ∷ [] in
+      subst (λ ps. Pushed c s y n pre l post (with_node y l.id new) ps) (sym (part_spills y l.id new (tail_of l) e f))
+      (subst (λ p. Pushed c s y n pre l post p ps) (sym (with_spills y l.id new (tail_of l) e f))
+      (subst (λ k. Pushed c s y n pre l post (spilling_at y l.id new (tail_of l) k) ps) k (pushed_spills c s y pre l post new n d a x1 x2 x3)))
 ]
+
+pub pushed_parting : (c : List ℕ) (s : Section) (y : Layout) (n : ℕ → Node) (pre : List NodeList) (l : NodeList) (post : List NodeList) (P : Plan) (ps : List Part) → Laid c s y (pre ++ (l ∷ post))
+    → (q : Pushed c s y n pre l post P ps) → Parting y.highest (pre ++ (l ∷ post)) y.highest (pre ++ (q.list ∷ post)) ps
+pushed_parting c s y n pre l post P ps d q =
+    let (u, v) = all_front (λ m. m.id ≤ y.highest) pre (l ∷ post) d.known in
+    parting_push y.highest pre l q.list post ps d.body.ids_differ q.same v.0 q.parts (subst (λ z. LengthenedAs z l q.list ps) (sym q.same) q.lengthened)
 
 -- a node's plan keeps the highest ID, and touches its list
 pub with_node_highest : (y : Layout) (id : ℕ) (new : List ℕ) → (with_node y id new).layout.highest ≡ y.highest

@@ -1,5 +1,5 @@
 -- The log's writes of a commit, all cases: its entries fit into the last log fragment, or go on in a new one at the draft's end.
-use Rattle.std.proofs.Common.{◌≡◌, ℕ, ◌+◌, ◌-◌, ◌*◌, ◌%◌, ◌<◌, ◌≤◌, ltb, List, [], ◌∷◌, ◌++◌, length, take, drop, replicate, sym, refl, ap, ◌∙◌, subst, inl, inr, arith}
+use Rattle.std.proofs.Common.{◌≡◌, ℕ, ◌+◌, ◌-◌, ◌*◌, ◌%◌, ◌<◌, ◌≤◌, Bool, cond, ltb, List, [], ◌∷◌, ◌++◌, length, take, drop, replicate, sym, refl, ap, ◌∙◌, subst, inl, inr, arith}
 use Rattle.std.specs.List.{AllByRecursion}
 use Rattle.std.proofs.lemmas.List.{append_assoc, length-append, length-take, length-drop, take_all, drop_all, take-append-drop}
 use Rattle.std.proofs.lemmas.Bool.{cases_Bool}
@@ -25,7 +25,7 @@ use Rattle.commits.proofs.Sizes.{length_span_bytes, length_entry_bytes, length_n
 use Rattle.commits.proofs.Store.{length_written, same_written, stored_written, stored_same, stored_front, span_stored}
 use Rattle.commits.proofs.FragmentBack.{Small, entries_back, log_fragment_back}
 use Rattle.commits.proofs.HeadBack.{headed}
-use Rattle.meaning.proofs.Growth.{last_all}
+use Rattle.meaning.proofs.Growth.{last_all, last_push}
 use Rattle.commits.proofs.Rows.{all_both, all_between, pair_between}
 use Rattle.commits.proofs.Bodies.{all_by_end, past_apart}
 use Rattle.commits.proofs.LogAdded.{LogAgree, Follows, log_fits, log_spills, log_some, split_log, next_inside}
@@ -43,13 +43,26 @@ around_log b c end d (f ∷ (g ∷ gs)) used lo o (a, as') (h, hs) k l =
 
 -- the log afterwards -----------------------------------------------------------------------------------------------------
 
--- in the row c1 the log has the draft's transaction, and the lists stand as before
-pub record LogDone (c c1 : List ℕ) (s : Section) (y : Layout) (ls : List NodeList) (h : Header) : Type 0 where
+-- where the log ends then: in its old last fragment, or in a new one if the entries do not fit
+abbrev pub runs_out : Section → Layout → Bool
+runs_out s y = ltb (entries_in (last_of (span 0 0) s.log.fragments).size - s.log.used) (length (new_entries y))
+
+abbrev pub last_then : Section → Layout → Span
+last_then s y = cond (runs_out s y) (span y.end 1024) (last_of (span 0 0) s.log.fragments)
+
+abbrev pub used_then : Section → Layout → ℕ
+used_then s y = cond (runs_out s y) (length (drop (entries_in (last_of (span 0 0) s.log.fragments).size - s.log.used) (new_entries y))) (s.log.used + length (new_entries y))
+
+-- in the row c1 the log has the draft's transaction, and the lists stand as before; the log ends in `end`, of which it uses so many entries, and there are `number` fragments
+pub record LogDone (c c1 : List ℕ) (s : Section) (y : Layout) (ls : List NodeList) (h : Header) (end : Span) (used' number : ℕ) : Type 0 where
   pub log : Log
+  pub end' : last_of (span 0 0) log.fragments ≡ end
+  pub used : log.used ≡ used'
+  pub fragments : length (log.fragments ++ list_fragments ls) ≡ number
   pub transactions : log.transactions ≡ s.log.transactions ++ (count_entries y ∷ [])
   pub logs : Logs c1 h log
   pub body : Body c1 h log.fragments ls
-  pub few : length (log.fragments ++ list_fragments ls) ≤ 2048
+  pub few : number ≤ 2048
   pub last : Span
   pub place : ℕ
   pub around : Around c c1 y.end last place 0 0
@@ -81,6 +94,7 @@ last_log c s y ls d =
 log_done_fits : (c : List ℕ) (s : Section) (y : Layout) (ls : List NodeList) (guid : List ℕ) → Drafted c s y ls → Fine y → Follows s.log.transactions (count_entries y) → AllByRecursion Small (new_entries y)
     → s.log.used + length (new_entries y) ≤ entries_in (last_of (span 0 0) s.log.fragments).size
     → LogDone c (written c (entry_place (last_of (span 0 0) s.log.fragments) s.log.used) (entry_bytes (new_entries y))) s y ls (headed s.header y.end guid)
+    (last_of (span 0 0) s.log.fragments) (s.log.used + length (new_entries y)) y.fragments
 log_done_fits c s y ls guid d f w sm p =
     let gs = s.log.fragments in
     let lf : List Span = list_fragments ls in
@@ -110,7 +124,10 @@ log_done_fits c s y ls guid d f w sm p =
       transactions = refl;
       logs = log_fits c c1 s.header H s.log t d.logs ag la refl refl w p en;
       body = body_same c c1 (up_to s.header E) H gs ls d.laid.body (omega arith) o.after kl;
-      few = omega (arith, d.laid.fragments, f.fragments);
+      end' = refl;
+      used = refl;
+      fragments = sym d.laid.fragments;
+      few = f.fragments;
       last = g;
       place = at;
       around = o;
@@ -145,6 +162,7 @@ log_done_spills : (c : List ℕ) (s : Section) (y : Layout) (ls : List NodeList)
     → let g = last_of (span 0 0) s.log.fragments in
     let piece = at_end y (new_log_fragment rest) in
     LogDone c (written (written (written c y.end piece.new) (log_next g) (span_bytes (span y.end 1024))) (entry_place g s.log.used) (entry_bytes fit)) s y ls (headed s.header (behind piece) guid)
+    (span y.end 1024) (length rest) (y.fragments + 1)
 log_done_spills c s y ls guid fit rest d f w q sf sr p r1 r2 few =
     let gs = s.log.fragments in
     let lf : List Span = list_fragments ls in
@@ -201,7 +219,10 @@ log_done_spills c s y ls guid fit rest d f w q sf sr p r1 r2 few =
       transactions = refl;
       logs = log_spills c c1 s.header H s.log t fit rest X d.logs ag (omega arith) refl refl w q p en en2 en3 r1 (omega arith) (omega arith, omega arith) far (omega arith);
       body = body_log c1 H E gs ls X (body_same c c1 (up_to s.header E) H gs ls d.laid.body (omega arith) (omega arith) kl) by_end d.laid.body.data_inside (omega arith) (omega arith);
-      few = omega arith;
+      end' = last_push (span 0 0) gs X;
+      used = refl;
+      fragments = omega arith;
+      few = few;
       last = g;
       place = at;
       around = o;
@@ -228,7 +249,7 @@ fit_write b (e ∷ es) p = refl
 -- after the log's writes, whichever they are
 pub log_done : (c : List ℕ) (s : Section) (y : Layout) (ls : List NodeList) (guid : List ℕ) → Drafted c s y ls → Fine y → Follows s.log.transactions (count_entries y) → AllByRecursion Small (new_entries y)
     → length (new_entries y) ≤ 126 → (logged s y).fragments ≤ 2048
-    → LogDone c (applied c (logged s y).writes) s y ls (headed s.header (logged s y).end guid)
+    → LogDone c (applied c (logged s y).writes) s y ls (headed s.header (logged s y).end guid) (last_then s y) (used_then s y) (logged s y).fragments
 unfolding applied
 log_done c s y ls guid d f w sm few k = elim (cases_Bool (ltb room (length es))) [
   | inl m ↦
@@ -239,14 +260,16 @@ log_done c s y ls guid d f w sm few k = elim (cases_Bool (ltb room (length es)))
       let (x0, x1) = all_front Small (take room es) (drop room es) (subst (λ z. AllByRecursion Small z) (sym (take-append-drop room es)) sm) in
       let pl = d.logs.part.places in
       let k1 : y.fragments + 1 ≤ 2048 = rw m at k in
-      rw (r, m) (subst (λ (z : List ℕ). LogDone c z s y ls (headed s.header (behind (at_end y (new_log_fragment (drop room es)))) guid)) (sym (fit_write _ (take room es) (entry_place g s.log.used)))
+      rw (r, m) (subst (λ (z : List ℕ). LogDone c z s y ls (headed s.header (behind (at_end y (new_log_fragment (drop room es)))) guid) (span y.end 1024) (length (drop room es)) (y.fragments + 1))
+      (sym (fit_write _ (take room es) (entry_place g s.log.used)))
       (log_done_spills c s y ls guid (take room es) (drop room es) d f w (sym (take-append-drop room es)) x0 x1 (omega arith) (omega arith) (omega arith) k1))
   | inr m ↦
       let b1 : length es ≤ room = grind (arith, nat_tests) in
       let x : take room es ≡ es = take_all room es (omega arith) in
       let z : drop room es ≡ [] = drop_all room es (omega arith) in
       let pl = d.logs.part.places in
-      rw (x, z, m) (subst (λ (z : List ℕ). LogDone c z s y ls (headed s.header y.end guid)) (sym (fit_write c es (entry_place g s.log.used))) (log_done_fits c s y ls guid d f w sm (omega arith)))
+      rw (x, z, m) (subst (λ (z : List ℕ). LogDone c z s y ls (headed s.header y.end guid) g (s.log.used + length es) y.fragments)
+      (sym (fit_write c es (entry_place g s.log.used))) (log_done_fits c s y ls guid d f w sm (omega arith)))
 ]
   where
     g : Span

@@ -51,7 +51,7 @@ rising_back before [] ys r = rw append-nil r
 rising_back before (x ∷ xs) ys (p, r) = subst (λ z. Rising z ys) (append_assoc before (x ∷ []) xs) (rising_back (before ++ (x ∷ [])) xs ys r)
 
 -- a list's count at k is at most its last
-count_most : (ts : List (List Entry)) (k id : ℕ) → Rising [] (flat ts) → count_in (take k ts) id ≤ count_in ts id
+pub count_most : (ts : List (List Entry)) (k id : ℕ) → Rising [] (flat ts) → count_in (take k ts) id ≤ count_in ts id
 count_most ts k id r =
     let e : flat ts ≡ flat (take k ts) ++ flat (drop k ts) = ap (λ (z : List (List Entry)). flat z) (sym (take-append-drop k ts)) ∙ flat_join (take k ts) (drop k ts) in
     let q = rising_most id (flat (take k ts)) (flat (drop k ts)) (rising_back [] (flat (take k ts)) (flat (drop k ts)) (subst (λ z. Rising [] z) e r)) in

@@ -1,5 +1,5 @@
 -- One node more in a list: the bytes after the writes, and the list in them. It fits, or it goes into a new fragment.
-use Rattle.std.proofs.Common.{◌≡◌, ℕ, ◌+◌, ◌^◌, ◌<◌, ◌≤◌, true, false, cond, leb, List, [], ◌∷◌, ◌++◌, length, sym, ◌∙◌, inl, inr, arith}
+use Rattle.std.proofs.Common.{◌≡◌, ℕ, ◌+◌, ◌^◌, ◌<◌, ◌≤◌, true, false, cond, leb, List, [], ◌∷◌, ◌++◌, length, sym, refl, ◌∙◌, inl, inr, arith}
 use Rattle.std.proofs.lemmas.List.{length-append}
 use Rattle.std.proofs.lemmas.Bool.{cases_lt}
 use Rattle.std.proofs.lemmas.Bool.Decides.{nat_tests}
@@ -24,6 +24,7 @@ use Rattle.commits.proofs.Around.{around_none, around_in, around_past}
 -- bytes that are a node, which depends on its place only
 pub record Made (new : List ℕ) (n : ℕ → Node) : Type 0 where
   pub good : (c : List ℕ) (stop p : ℕ) → Stored c p new → p + length new ≤ stop → Good c stop p (n p)
+  pub place : (p : ℕ) → (n p).place ≡ p
   pub size : (p : ℕ) → (n p).size ≡ length new
   pub short : length new ≤ 988
   pub some : 4 ≤ length new
@@ -33,6 +34,7 @@ plain_made id payload f k =
     let e = length_plain id payload in
     record {
       good = λ c stop p o h. plain_good c stop p id payload f k (omega arith) o;
+      place = λ p. refl;
       size = λ p. sym e;
       short = omega arith;
       some = omega arith;
@@ -44,6 +46,7 @@ referring_made id base r payload f j l k u w =
     let e = length_referring id base r payload in
     record {
       good = λ c stop p o h. referring_good c stop p id base r payload f j l k u w (omega arith) o;
+      place = λ p. refl;
       size = λ p. sym e;
       short = omega arith;
       some = omega arith;

@@ -137,7 +137,7 @@ sound_drafting {ceiling = ceiling} k = record {
   below = subst (λ b. length b ≤ ceiling) k.bytes k.below_ceiling;
 }
 
-state_is : (b b' : List ℕ) (ceiling ceiling' : ℕ) (a a' : Option Access) → b ≡ b' → ceiling ≡ ceiling' → a ≡ a'
+pub state_is : (b b' : List ℕ) (ceiling ceiling' : ℕ) (a a' : Option Access) → b ≡ b' → ceiling ≡ ceiling' → a ≡ a'
     → ◌≡◌ {A = State} (record { bytes = b; ceiling = ceiling; access = a }) (record { bytes = b'; ceiling = ceiling'; access = a' })
 state_is b b' ceiling ceiling' a a' x y z = cc
 
