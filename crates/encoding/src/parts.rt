@@ -12,17 +12,20 @@ use crate::buffer::WriteBuffer;
 use model::marks::{FIRST_MARK, LAST_MARK, NIL};
 use model::types::{Entry, Span};
 
-// A node's first number takes so many bytes.
-const PLAIN_BYTES: usize = 4;
+/// A node's first number takes so many bytes.
+pub const PLAIN_BYTES: usize = 4;
 
-// With a reference behind it they are so many.
-const REFERRING_BYTES: usize = 16;
+/// With a reference behind it they are so many.
+pub const REFERRING_BYTES: usize = 16;
 
 // The first four bytes of the node that ends a fragment's nodes.
 const TERMINATOR: u64 = 0x800010FF;
 
-// A list's fragment has so many bytes for its nodes.
-const NODE_ROOM: usize = 988;
+/// A new fragment has so many bytes.
+pub const FRAGMENT_BYTES: u64 = 1024;
+
+/// A list's new fragment has so many bytes for its nodes.
+pub const NODE_ROOM: usize = 988;
 
 // A fragment of the log has so many entries.
 const MOST_ENTRIES: usize = 126;

@@ -1,0 +1,5 @@
+pub mod ByKind
+pub mod Held
+pub mod Near
+pub mod Planned
+pub mod Spills

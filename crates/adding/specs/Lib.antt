@@ -1,0 +1,3 @@
+pub mod Adds
+pub mod Parts
+pub mod Writes

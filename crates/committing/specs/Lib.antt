@@ -1,0 +1,4 @@
+pub mod CommitWrites
+pub mod Heads
+pub mod LogParts
+pub mod Made

@@ -1,0 +1,9 @@
+pub mod Tails
+pub mod Begun
+pub mod Finished
+pub mod Looked
+pub mod Taken
+pub mod Rows
+pub mod Stepped
+pub mod Planned
+pub mod Told

@@ -1,0 +1,5 @@
+pub mod Lays
+pub mod Steps
+pub mod Plans
+pub mod Rowed
+pub mod Looked
