@@ -1,0 +1,2 @@
+pub mod Tallied
+pub mod Fragments
