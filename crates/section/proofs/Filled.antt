@@ -1,14 +1,20 @@
 -- What reading a file answers, from what its parts answer.
-use Rattle.std.proofs.Common.{◌≡◌, ℕ, List, [], length, IsErrAnd, Some, None, Ok, Err, vec_items, Option, Result, sym, refl, ap, ◌∙◌, arith}
+use Rattle.std.proofs.Common.{◌≡◌, ℕ, List, [], length, IsErrAnd, Some, None, Ok, Err, vec_items, Option, Result, sym, refl, ap, ◌∙◌, false, arith}
+use Rattle.std.proofs.lemmas.List.{take_all}
 use Rattle.model.specs.declared.types.Span.{Span}
 use Rattle.model.specs.declared.types.Header.{Header}
 use Rattle.model.specs.declared.types.Fault.{Fault}
-use Rattle.model.specs.Faults.{refused}
-use Rattle.model.specs.Section.{Log, NodeList}
+use Rattle.model.specs.Faults.{done, refused}
+use Rattle.model.specs.References.{span}
+use Rattle.model.specs.Section.{Log, NodeList, Section, last_of}
+use Rattle.model.specs.Layouts.{blank}
 use Rattle.model.specs.OpenedLists.{named_first, lists_from}
-use Rattle.model.specs.Opened.{all_data}
+use Rattle.model.specs.Opened.{all_data, opened}
 use Rattle.model.specs.Breaks.{Walked}
 use Rattle.counts.specs.declared.changes.Change.{Change}
+use Rattle.counts.specs.Noted.{noted_most, numbered}
+use Rattle.counts.proofs.Numbered.{entries_numbered}
+use Rattle.meaning.proofs.OpensMeans.{opens_means}
 use Rattle.refusals.specs.declared.faults.LogFault.{LogFault}
 use Rattle.refusals.specs.declared.faults.LogFault.TheVariants as log
 use Rattle.refusals.specs.declared.faults.ListFault.{ListFault}
@@ -20,13 +26,15 @@ use Rattle.refusals.specs.Refusals.{log_told, list_fault, list_told, told}
 use Rattle.refusals.specs.Checked.{told_by}
 use Rattle.tables.specs.declared.room.Room.{Room}
 use Rattle.tables.specs.declared.room.Row.{Row}
+use Rattle.tables.specs.Kept.{Kept}
 use Rattle.tables.specs.declared.queue.Named.{Named}
+use Rattle.pieces.specs.declared.piece.Piece.{Piece}
 use Rattle.log_pass.specs.Logs.{whole_log, all_counts, Refuses, LogRead}
 use Rattle.lists_pass.specs.Opening.{Holds, AllRead}
 use Rattle.data_pass.specs.Files.{Filed}
-use Rattle.data_pass.proofs.AllSteps.{rows_length}
 use Rattle.section.specs.declared.access.Access.{Access}
 use Rattle.section.specs.OpenAnswers.{opened_in, ReadsAs, ReadsFile}
+use Rattle.section.proofs.Highest.{sources_most, highest_counted}
 use Rattle.section.proofs.Joined.{Right, Logged, log_refused, holds_log, lists_refused, walked_of, data_refused, all_read, in_room}
 
 pub reads_err : (mark : ℕ) (b : List ℕ) (capacity : ℕ) (room : Room) (r : Result Access OpenFault) (e : OpenFault) → IsErrAnd r (λ y. y ≡ e) → opened_in capacity b ≡ refused (told e)
@@ -60,7 +68,7 @@ log_err mark b h capacity room r x i right t =
 
 -- the header is right, and the log was read into a room that holds no list and no name of one
 module _ (b : List ℕ) (h : Header) (capacity : ℕ) (fs : List Span) (cs : List Change) (n used : ℕ) (right : Right b h capacity) (r : LogRead b h capacity fs cs n (Ok used))
-    (old : List Row) (named : List Named) (none : old ≡ []) (empty : named ≡ []) where
+    (old : List Row) (named : List Named) (ps : List Piece) (none : old ≡ []) (empty : named ≡ []) (bare : ps ≡ []) where
   abbrev log_read : Log
   log_read = record { fragments = fs; transactions = r.0; used = used }
 
@@ -69,10 +77,10 @@ module _ (b : List ℕ) (h : Header) (capacity : ℕ) (fs : List Span) (cs : Lis
 
   -- what is answered for each log that the room holds
   abbrev pub ForLogs : (Log → Type 0) → Type 0
-  ForLogs P = (log : Log) → Holds log cs fs old → named ≡ [] → P log
+  ForLogs P = (log : Log) → Holds log cs fs old ps → named ≡ [] → P log
 
   for_log : (P : Log → Type 0) → ForLogs P → P log_read
-  for_log P a = a log_read (holds_log b h capacity fs r.0 used cs old r.2 none) empty
+  for_log P a = a log_read (holds_log b h capacity fs r.0 used cs old ps r.2 none bare) empty
 
   module _ (mark : ℕ) (room : Room) where
     list_err : (y : Result Access OpenFault) (e : InList) → IsErrAnd y (λ z. z ≡ opening.List e) → opened_in capacity b ≡ refused (list_told e) → ReadsFile mark b capacity room y
@@ -84,9 +92,9 @@ module _ (b : List ℕ) (h : Header) (capacity : ℕ) (fs : List Span) (cs : Lis
     lists_err y e i t = list_err y e i (lists_refused b h capacity log_read (list_told e) logged_of (for_log (λ log. lists_from 1024 b h log (named_first h) [] ≡ refused (list_told e)) t))
 
     -- the lists were read too, and their data is checked
-    module _ (read : ForLogs (λ log. AllRead b h log room.lists room.fragments)) where
-      all : AllRead b h log_read room.lists room.fragments
-      all = for_log (λ log. AllRead b h log room.lists room.fragments) read
+    module _ (read : ForLogs (λ log. AllRead b h log room.lists room.pieces.rows room.fragments)) where
+      all : AllRead b h log_read room.lists room.pieces.rows room.fragments
+      all = for_log (λ log. AllRead b h log room.lists room.pieces.rows room.fragments) read
 
       filed : Filed log_read all.lists room.lists room.fragments
       filed = record { rows_are = all.row; fragments_are = all.fragments }
@@ -101,22 +109,39 @@ module _ (b : List ℕ) (h : Header) (capacity : ℕ) (fs : List Span) (cs : Lis
       pub data_err : (y : Result Access OpenFault) (e : InList) → IsErrAnd y (λ z. z ≡ opening.List e) → ForLists (Some (list_told e)) → ReadsFile mark b capacity room y
       data_err y e i d = list_err y e i (data_refused b h capacity log_read all.lists (list_told e) logged_of all.gives (for_lists (Some (list_told e)) d))
 
+      -- the room keeps all that was read
+      all_noted : vec_items room.counts.changes ≡ numbered 1 log_read.transactions → room.counts.finished ≡ length log_read.transactions
+          → Kept b (record { header = h; log = log_read; lists = all.lists }) room
+      all_noted c f = record {
+        changes = c ∙ ap (numbered 1) (sym (take_all room.counts.finished log_read.transactions (omega arith)));
+        finished = omega arith;
+        lists = all.indexed;
+      }
+
       -- all is right
-      pub reads_as : vec_items room.counts.changes ≡ cs → room.counts.finished ≡ n → ForLists None → ReadsAs mark b capacity room (record { mark = mark; header = h; used = used })
-      reads_as c f d =
+      abbrev found : Section
+      found = record { header = h; log = log_read; lists = all.lists }
+
+      most_counted : vec_items room.counts.changes ≡ cs → opened b ≡ done found → noted_most (vec_items room.counts.changes) ≡ (blank found).highest
+      most_counted c fits = ap noted_most (c ∙ r.2) ∙ ap sources_most (entries_numbered r.0 1) ∙ highest_counted b found (opens_means b found fits).0
+
+      pub reads_as : vec_items room.counts.changes ≡ cs → room.counts.finished ≡ n → ForLists None → (f : Span) (m x : ℕ) → f ≡ last_of (span 0 0) fs → m ≡ length room.fragments
+          → x ≡ noted_most (vec_items room.counts.changes)
+          → ReadsAs mark b capacity room (record { mark = mark; begins = 0; drafting = false; header = h; log = record { fragment = f; used = used }; fragments = m; highest = x })
+      reads_as c f d e m x ends number highest =
           let opens = all_read b h capacity log_read all.lists logged_of all.gives (for_lists None d) in
+          let fits = in_room b h capacity log_read logged_of ∙ opens in
           record {
-            section = record { header = h; log = log_read; lists = all.lists };
+            section = found;
             opens = opens;
-            fits = in_room b h capacity log_read logged_of ∙ opens;
+            fits = fits;
             keeps = record {
               header = refl;
-              used = refl;
-              changes = c ∙ r.2;
-              finished = f ∙ r.3;
-              fragments = ap length all.fragments;
-              lists = ap length all.row ∙ rows_length (length fs) all.lists;
+              log = record { fragment = ends; used = refl };
+              fragments = number ∙ ap length all.fragments;
+              highest = highest ∙ most_counted c fits;
+              kept = all_noted (c ∙ r.2) (f ∙ r.3);
             };
-            marked = refl;
+            marked = (refl, refl, refl);
             filed = filed;
           }

@@ -2,3 +2,15 @@ pub mod Joined
 pub mod Opens
 pub mod Filled
 pub mod RoomLaws
+pub mod Shown
+pub mod States
+pub mod Lasts
+pub mod Highest
+pub mod Checks
+pub mod KeptAgain
+pub mod Calls
+pub mod Rests
+pub mod Touched
+pub mod Commits
+pub mod Finishes
+pub mod Adds

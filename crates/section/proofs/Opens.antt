@@ -32,14 +32,14 @@ sizes_of b s m =
     omega (arith, sum_by-le (λ (f : Span). f.size) end (fragments_of s) (All-from_recursion Short (fragments_of s) all))
 
 -- what was read of a shut file is answered in figures
-pub answer_read : (mark : ℕ) (b : List ℕ) (capacity : ℕ) (room : Room) (a : Access) (r : ReadsAs mark b capacity room a) (o : Option Access) (fs : List Span) (n m p : ℕ)
-    → is_some o ≡ false → fs ≡ room.fragments → n ≡ length room.lists → m ≡ length room.fragments
+pub answer_read : (mark : ℕ) (b : List ℕ) (capacity : ℕ) (room : Room) (a : Access) (r : ReadsAs mark b capacity room a) (o : Option Access) (fs : List Span) (n p : ℕ)
+    → is_some o ≡ false → fs ≡ room.fragments → n ≡ length room.lists
     → (1 ≤ a.header.end → sizes fs < 2 ^ 56 → p ≡ percent_of fs a.header.end)
-    → done (record { count = a.header.count; end = a.header.end; lists = n; fragments = m; percent = p }) ≡ open_answer o capacity b
-answer_read mark b capacity room a r (Some x) fs n m p shut is lists fragments percent = absurd cc
-answer_read mark b capacity room a r None fs n m p shut is lists fragments percent =
+    → done (record { count = a.header.count; end = a.header.end; lists = n; fragments = a.fragments; percent = p }) ≡ open_answer o capacity b
+answer_read mark b capacity room a r (Some x) fs n p shut is lists percent = absurd cc
+answer_read mark b capacity room a r None fs n p shut is lists percent =
     let mean = (opens_means b r.section r.fits).0 in
     let same : fs ≡ fragments_of r.section = is ∙ r.filed.fragments_are in
     let some : 1 ≤ a.header.end = omega (arith, mean.header.least, ap (λ (k : Header). k.end) r.keeps.header) in
     let whole = percent some (subst (λ w. sizes w < 2 ^ 56) (sym same) (sizes_of b r.section mean)) in
-    rw r.opens (cc (r.keeps.header, lists ∙ r.keeps.lists, fragments ∙ r.keeps.fragments))
+    rw r.opens (cc (r.keeps.header, lists ∙ r.keeps.kept.lists.number, r.keeps.fragments))

@@ -49,12 +49,16 @@ abbrev pub open_answer : Option Access → ℕ → List ℕ → Outcome Figures
 open_answer (Some a) room b = refused (fault 14 4 0 0)
 open_answer None room b = then (opened_in room b) (λ s. done (figures_of s))
 
+-- a file that was just opened has the mark, and no draft was begun
+abbrev pub Fresh : ℕ → Access → Type 0
+Fresh mark a = (a.mark ≡ mark) × (a.begins ≡ 0) × (a.drafting ≡ false)
+
 -- an opened file that is busy stays as it is; a refused one is shut, an accepted one has the mark
 abbrev pub Marks : Option Access → ℕ → Outcome Figures → Option Access → Type 0
 Marks (Some a) mark r after = after ≡ Some a
 Marks None mark (refused f) after = after ≡ None
 Marks None mark (done x) None = ⊥
-Marks None mark (done x) (Some a) = a.mark ≡ mark
+Marks None mark (done x) (Some a) = Fresh mark a
 
 -- the lists of an accepted file stand in the order of opening; a file that its header refuses, in layer 1, has none
 abbrev pub ListsRows : Outcome Section → List Row → Type 0
@@ -66,8 +70,8 @@ pub record ReadsAs (mark : ℕ) (b : List ℕ) (capacity : ℕ) (room : Room) (a
   pub section : Section
   pub opens : opened_in capacity b ≡ done section
   pub fits : opened b ≡ done section
-  pub keeps : Keeps section room a
-  pub marked : a.mark ≡ mark
+  pub keeps : Keeps b section room a
+  pub marked : Fresh mark a
   pub filed : Filed section.log section.lists room.lists room.fragments
 
 -- header, log, lists and data references are read, or this is the first broken rule; where it is the header's, no list is left

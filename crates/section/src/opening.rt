@@ -1,9 +1,12 @@
 //! Reading a file: its header, its log, its lists, and then their data references.
 ghost use Rattle.std.specs.Prelude.{◌≡◌, [], ◌+◌, ◌^◌, ◌<◌, ◌≤◌};
+ghost use Rattle.model.specs.References.{span};
+ghost use Rattle.model.specs.Section.{last_of};
 ghost use Rattle.section.specs.Figures.{sizes, percent_of};
 ghost use Rattle.section.specs.OpenAnswers.{ReadsFile};
 
 use crate::access::Access;
+use committing::log_end::LogEnd;
 use data_pass::check_data;
 use header_pass::check_header;
 use lists_pass::read_lists;
@@ -35,13 +38,29 @@ fn read_parts<S: Store>(store: &S, mark: u64, room: &mut Room) -> Result<Access,
 {
     let checked = check_header(store)?;
     let used = read_log(store, &checked, room)?;
+    let fragment = last_of(room.fragments.as_slice());
     read_lists(store, &checked, room)?;
     check_data(store, &checked, room)?;
     Ok(Access {
         mark,
+        begins: 0,
+        drafting: false,
         header: checked.header,
-        used,
+        log: LogEnd { fragment, used },
+        fragments: room.fragments.len(),
+        highest: room.counts.highest(),
     })
+}
+
+// The last of the log's fragments; a log that was read has one.
+#[tactic(auto, using(crate::proofs::Lasts::last_found))]
+fn last_of(fragments: &[Span]) -> Span
+    ensures { result ≡ last_of (span 0 0) fragments.now }
+{
+    fragments
+        .last()
+        .copied()
+        .unwrap_or(Span { start: 0, size: 0 })
 }
 
 // The whole percent of a file with this end that is header and fragments.
@@ -55,7 +74,7 @@ pub(crate) fn percent(fragments: &[Span], end: u64) -> u64
 }
 
 // How many bytes the header and the fragments have.
-fn used(fragments: &[Span]) -> u64
+pub(crate) fn used(fragments: &[Span]) -> u64
     ensures { sizes fragments.now < 2 ^ 56 → result ≡ 1024 + sizes fragments.now }
 {
     let mut all: u64 = 1024;

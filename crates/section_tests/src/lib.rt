@@ -8,10 +8,11 @@ mod tests {
     use refusals::faults::OpenFault;
     use section::access::Figures;
     use section::files::File;
+    use section::space::Space;
     use std::test::Fail;
     use store::base::{SavingStore, StoreFault};
     use store::flat_store::Flat;
-    use tables::room::{Room, Row};
+    use tables::room::Row;
 
     // The root's fragment has 64 bytes, the log's two entries and a next reference.
     const ROOT: u64 = 1024;
@@ -75,7 +76,7 @@ mod tests {
         put_header(&mut store, 1)?;
         put_root(&mut store)?;
         put_log(&mut store)?;
-        Ok(File::new(store, Room::new(rt.alloc(), changes)?))
+        Ok(File::new(store, Space::new(rt.alloc(), changes)?))
     }
 
     #[test]
