@@ -1,0 +1,3 @@
+pub mod Answered
+pub mod Steps
+pub mod Journals
