@@ -1,25 +1,18 @@
 //! Lists each sample file and compares the listing with the one that stands beside it.
 #![tactic(auto)]
 
-use lines::listed;
-use section::files::File;
+use lines::{file_of, listed};
 use std::fs;
-use store::flat_store::Flat;
-use tables::room::Room;
 
 // The samples are numbered from 0 on.
 const SAMPLES: u32 = 68;
-
-// A log of a sample has at most this many entries.
-const MOST_ENTRIES: usize = 8_192;
 
 // Whether a sample's listing is the one expected.
 fn is_as_expected(rt: &HostRuntime, number: u32) -> anyhow::Result<bool> {
     let bytes = fs::read(rt, format!(in rt.alloc(); "{number:03}.one")?)?;
     let expected = fs::read_to_string(rt, format!(in rt.alloc(); "{number:03}.txt")?)?;
-    let len = bytes.len() as u64;
-    let mut file = File::new(Flat::new(bytes, len)?, Room::new(rt.alloc(), MOST_ENTRIES)?);
-    let text = listed(rt.alloc(), &mut file, 1)?;
+    let mut file = file_of(rt.alloc(), bytes)?;
+    let text = listed(&mut file, 1).to_string(rt.alloc())?;
     Ok(text == expected)
 }
 

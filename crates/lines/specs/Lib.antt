@@ -1,0 +1,3 @@
+pub mod Left
+pub mod Lines
+pub mod Printed

@@ -1,79 +1,102 @@
 //! The lines of a listing: numbers in columns of 12.
 #![tactic(auto)]
 
-use column::column;
+ghost use Rattle.std.specs.Prelude.{◌≡◌, take, Some, None, IfOk};
+ghost use Rattle.std.specs.Fmt.{WritesOnOk};
+ghost use Rattle.std.specs.List.{flat_map};
+ghost use Rattle.std.specs.Borrow.{sem};
+ghost use Rattle.std.specs.Io.BufRead.{Rests};
+ghost use Rattle.section.specs.contracts.files.File.{the_row};
+ghost use Rattle.lines.specs.Lines.{found, listing};
+ghost use Rattle.lines.specs.Left.{Left};
+ghost use Rattle.lines.specs.Printed.{row_line, printed};
+
+use columns::Line;
 use model::types::Fault;
 use section::access::Figures;
 use section::files::File;
+use section::space::Space;
 use std::alloc::{AllocError, Global};
+use std::fmt;
 use store::base::Store;
+use store::flat_store::Flat;
 use tables::room::Row;
 
-/// Opens a file and lists it: its figures, then each list's ID, nodes and fragments; or, refused, the one line that tells why.
-pub fn listed<S: Store>(heap: Global, file: &mut File<S>, mark: u64) -> Result<String, AllocError> {
-    let mut out = String::new(heap);
-    match file.open(mark) {
-        Ok(figures) => push_listing(&mut out, figures, file.lists())?,
-        Err(fault) => push_refusal(&mut out, fault.into())?,
-    }
-    Ok(out)
+mod columns;
+
+// A log in 65,536 bytes has at most this many entries.
+const MOST_ENTRIES: usize = 8_192;
+
+/// What is listed of a file: its figures, and then each list's ID, nodes and fragments; or, refused, the one line that tells why.
+#[derive(Clone, Copy)]
+pub enum Listing<'a> {
+    Opened { figures: Figures, lists: &'a [Row] },
+    Refused(Fault),
 }
 
-/// Appends the listing of an opened file.
-pub fn push_listing(out: &mut String, figures: Figures, lists: &[Row]) -> Result<(), AllocError> {
-    let first = [
-        u64::from(figures.count),
-        figures.end,
-        figures.lists as u64,
-        figures.fragments as u64,
-        figures.percent,
-    ];
-    push_line(out, &first)?;
+impl fmt::Display for Listing<'_> {
+    ghost output = { λ l. Some (printed l) };
+
+    fn fmt<W: fmt::Write>(&self, f: &mut fmt::Formatter<W>) -> fmt::Result {
+        match *self {
+            Listing::Opened { figures, lists } => {
+                f.write(Line(&[
+                    u64::from(figures.count),
+                    figures.end,
+                    figures.lists as u64,
+                    figures.fragments as u64,
+                    figures.percent,
+                ]))?;
+                put_lists(f, lists)
+            }
+            Listing::Refused(fault) => f.write(Line(&[
+                u64::from(fault.number),
+                u64::from(fault.layer),
+                fault.place,
+                u64::from(fault.list),
+            ])),
+        }
+    }
+}
+
+// A line for each list.
+fn put_lists<W: fmt::Write>(f: &mut fmt::Formatter<W>, lists: &[Row]) -> fmt::Result
+    ensures { WritesOnOk W.write_str_gives f.old result (flat_map row_line lists.now) f.new }
+{
     for row in lists {
-        let line = [
+        f.write(Line(&[
             u64::from(row.id),
             u64::from(row.nodes),
             row.fragments as u64,
-        ];
-        push_line(out, &line)?;
+        ]))?;
     }
     Ok(())
 }
 
-/// Appends what a refusal tells: number, layer, place, list.
-pub fn push_refusal(out: &mut String, fault: Fault) -> Result<(), AllocError> {
-    let Fault {
-        number,
-        layer,
-        place,
-        list,
-    } = fault;
-    push_line(
-        out,
-        &[u64::from(number), u64::from(layer), place, u64::from(list)],
-    )
+/// These bytes as a file that is not open, with room for as many counts as a log in 65,536 bytes has.
+pub fn file_of(heap: Global, bytes: Vec<u8>) -> Result<File<Flat>, AllocError>
+    ensures shut { IfOk result (λ f. f.access ≡ None) }
+    ensures bytes { IfOk result (λ f. take f.store.len f.store.buffer.items ≡ bytes.items) }
+    ensures room { IfOk result (λ f. f.room.counts.room ≡ 8192) }
+{
+    let len = bytes.len() as u64;
+    let Ok(store) = Flat::new(bytes, len) else {
+        unreachable!();
+    };
+    Ok(File::new(store, Space::new(heap, MOST_ENTRIES)?))
 }
 
-/// Appends a line of numbers, each in its column.
-pub fn push_line(out: &mut String, numbers: &[u64]) -> Result<(), AllocError> {
-    for n in numbers {
-        push_number(out, *n)?;
+/// Opens a file, gives it a mark, and lists it: what is printed are the lines of what opening finds in the file's bytes.
+#[tactic(auto, using(crate::proofs::OpenedLines::listed_lines))]
+pub fn listed<S: Store>(file: &mut File<S>, mark: u64) -> Listing<'_>
+    ensures lines { printed result ≡ listing (found file.old.access file.old.room.counts.room (S.Store.bytes file.old.store)) }
+    ensures* leaves { sem 𝓛 (Rests (the_row S.row) file.entry (Left S.Store.bytes file.old mark)) }
+{
+    match file.open(mark) {
+        Ok(figures) => Listing::Opened {
+            figures,
+            lists: file.lists(),
+        },
+        Err(fault) => Listing::Refused(fault.into()),
     }
-    out.push('\n')
-}
-
-// A number of more than 12 digits takes as many columns as it has digits, behind a space.
-fn push_number(out: &mut String, n: u64) -> Result<(), AllocError> {
-    match column(n) {
-        Some(bytes) => push_bytes(out, &bytes),
-        None => write!(out, " {n}"),
-    }
-}
-
-// The column's bytes are digits and spaces, so each is a character.
-fn push_bytes(out: &mut String, bytes: &[u8]) -> Result<(), AllocError> {
-    for b in bytes {
-        out.push(char::from(*b))?;
-    }
-    Ok(())
 }
