@@ -1,0 +1,74 @@
+//! Looks at a file.
+use crate::answers::{Done, Trouble};
+use crate::stores::Sheet;
+use crc::crc32;
+use lines::Listing;
+use script::actions::{Look, Place};
+use std::alloc::{AllocError, Global};
+use store::base::Store;
+
+/// What a look at a file tells.
+pub(crate) fn seen(heap: Global, file: &Sheet, look: Look) -> Result<Done, Trouble> {
+    match look {
+        Look::Node { at, room } => node(heap, file, at, room),
+        Look::Piece {
+            at,
+            place,
+            size,
+            room,
+        } => {
+            let mut buffer = buffer(heap, file, room)?;
+            file.data(at.k, at.list, at.index, place, size, buffer.as_mut_slice())?;
+            buffer.truncate(size as usize);
+            Ok(Done::Bytes(buffer))
+        }
+        Look::Alike { at, list, index } => {
+            let alike = file.alike(at.k, at.list, at.index, list, index)?;
+            Ok(Done::Alike(alike))
+        }
+        Look::Bytes => Ok(Done::Row {
+            len: file.store().len(),
+            ceiling: file.store().ceiling(),
+            crc: crc32(row(heap, file)?.as_slice()),
+        }),
+        Look::Dump => Ok(Done::Bytes(row(heap, file)?)),
+        Look::List => listed(heap, file),
+    }
+}
+
+fn node(heap: Global, file: &Sheet, at: Place, room: u64) -> Result<Done, Trouble> {
+    let mut buffer = buffer(heap, file, room)?;
+    let seen = file.node(at.k, at.list, at.index, buffer.as_mut_slice())?;
+    buffer.truncate(seen.payload);
+    Ok(Done::Node {
+        seen,
+        payload: buffer,
+    })
+}
+
+// A buffer for a look with so much room. What a look brings stands in the store, so no more is ever needed than that is long.
+fn buffer(heap: Global, file: &Sheet, room: u64) -> Result<Vec<u8>, AllocError> {
+    zeros(heap, room.min(file.store().len()))
+}
+
+// All bytes of a file's store.
+fn row(heap: Global, file: &Sheet) -> Result<Vec<u8>, Trouble> {
+    let store = file.store();
+    let mut bytes = zeros(heap, store.len())?;
+    store.read(0, bytes.len(), bytes.as_mut_slice())?;
+    Ok(bytes)
+}
+
+fn zeros(heap: Global, n: u64) -> Result<Vec<u8>, AllocError> {
+    vec![in heap; 0u8; n as usize]
+}
+
+// The file's figures, and its lists.
+fn listed(heap: Global, file: &Sheet) -> Result<Done, Trouble> {
+    let figures = file.figures()?;
+    let listing = Listing::Opened {
+        figures,
+        lists: file.lists(),
+    };
+    Ok(Done::Listed(listing.to_string(heap)?))
+}
