@@ -6,12 +6,10 @@ use cover_store::Cover;
 use lines::listed;
 use sample::{END, lay_out};
 use section::files::File;
+use section::space::Space;
 use std::fmt;
 use store::base::{SavingStore, Store};
 use store::flat_store::Flat;
-use tables::room::Room;
-
-mod sample;
 
 // Blocks of a card's buffer, in the order in which they are read.
 const MAP: [u32; 10] = [7, 2, 13, 5, 11, 0, 15, 9, 4, 1];
@@ -45,8 +43,8 @@ fn shown<S: SavingStore + Drop>(
     let mut bytes = vec![in rt.alloc(); 0u8; WHOLE]?;
     store.read(0, WHOLE, bytes.as_mut_slice())?;
     println!(rt; "{name}: laid out and read back, {WHOLE} bytes")?;
-    let mut file = File::new(store, Room::new(rt.alloc(), 64)?);
-    let text = listed(rt.alloc(), &mut file, 1)?;
+    let mut file = File::new(store, Space::new(rt.alloc(), 64)?);
+    let text = listed(&mut file, 1).to_string(rt.alloc())?;
     println!(rt; "{name}: opened and listed")?;
     rt.print(text.as_str())?;
     tell(rt, "open again", file.open(2))?;
@@ -70,7 +68,7 @@ fn damaged(rt: &HostRuntime, action: &str, place: u64) -> anyhow::Result<()> {
     let mut store = flat(rt, END)?;
     lay_out(&mut store)?;
     store.write(place, &[0xFF])?;
-    let mut file = File::new(store, Room::new(rt.alloc(), 64)?);
+    let mut file = File::new(store, Space::new(rt.alloc(), 64)?);
     tell(rt, action, file.open(1))
 }
 

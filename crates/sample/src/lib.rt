@@ -1,4 +1,6 @@
 //! A sample section: two lists, a log of one transaction, and a piece of data; written by hand, so that it shows nothing of the code that it is read by.
+#![tactic(auto)]
+
 ghost use Rattle.std.specs.Prelude.{◌<◌};
 
 use crc::crc32;
