@@ -104,7 +104,7 @@ simple_step c s y ls id new n X d a x1 x2 x3 k w what =
         let (hd, lg) = carried c (applied c (with_node y l.id new).writes) s p.kept (omega arith) (d.head, d.logs) in
         let ms : List NodeList = pre ++ (p.list ∷ post) in
         let ct : Counting s (touch l.id y.touched) y.highest ms = counting_push s y.touched y.highest pre l p.list post d1.body.ids_differ p.same
-        (ap length p.nodes ∙ length-append l.nodes (n p.place ∷ [])) (subst (λ z. Counting s y.touched y.highest z) e d.counting) in
+        (ap length p.nodes ∙ length-append l.nodes (n p.place ∷ [])) p.extended (subst (λ z. Counting s y.touched y.highest z) e d.counting) in
         subst goal i (
           pre ++ (p.list ∷ post),
           record {
@@ -322,10 +322,10 @@ branch_step c s y ls list id payload first_id first d f i k j l0 v m =
         let ms : List NodeList = pre ++ (p.list ∷ (post ++ (l2 ∷ []))) in
         let T : List ℕ = touch l.id y.touched in
         let ct : Counting s T y.highest (pre ++ (p.list ∷ post)) = counting_push s y.touched y.highest pre l p.list post d0.body.ids_differ p.same
-        (ap length p.nodes ∙ length-append l.nodes (n ∷ [])) (subst (λ z. Counting s y.touched y.highest z) e d.counting) in
+        (ap length p.nodes ∙ length-append l.nodes (n ∷ [])) p.extended (subst (λ z. Counting s y.touched y.highest z) e d.counting) in
         let kn : AllByRecursion (λ m. m.id ≤ y.highest) (pre ++ (p.list ∷ post)) = All-append (λ m. m.id ≤ y.highest) pre (p.list ∷ post) u0 (subst (λ z. z ≤ y.highest) (sym p.same) top, u1.1) in
         let ct2 : Counting s (touch (y.highest + 1) T) (y.highest + 1) ms
-        = subst (λ z. Counting s (touch (y.highest + 1) T) (y.highest + 1) z) (append_assoc pre (p.list ∷ post) (l2 ∷ [])) (counting_list s T y.highest (pre ++ (p.list ∷ post)) l2 kn refl refl ct) in
+        = subst (λ z. Counting s (touch (y.highest + 1) T) (y.highest + 1) z) (append_assoc pre (p.list ∷ post) (l2 ∷ [])) (counting_list s T y.highest (pre ++ (p.list ∷ post)) l2 kn refl refl E refl ct) in
         let tq : (with_node (y1 l.id) l.id new).layout.touched ≡ touch (y.highest + 1) T
         = with_node_touched (y1 l.id) l.id new ∙ touch_again l.id (touch (y.highest + 1) T) (touch_other l.id (y.highest + 1) T (λ z. omega arith) ∙ touch_same l.id y.touched) in
         subst goal q (

@@ -1,5 +1,5 @@
 -- What a commit leaves: the log's new end, each list's tail, where its nodes stand, and the highest ID known.
-use Rattle.std.proofs.Common.{◌≡◌, ℕ, ◌<◌, ◌≤◌, false, ◌||◌, eqb, ◌≢◌, List, [], ◌∷◌, ◌++◌, map, length, sym, refl, ap, ◌∙◌, subst, inl, inr, arith}
+use Rattle.std.proofs.Common.{◌≡◌, ℕ, ◌+◌, ◌<◌, ◌≤◌, false, ◌||◌, eqb, ◌≢◌, List, [], ◌∷◌, ◌++◌, map, length, sym, refl, ap, ◌∙◌, subst, inl, inr, arith}
 use Rattle.std.specs.List.{AllByRecursion}
 use Rattle.std.proofs.lemmas.List.{length-append}
 use Rattle.std.proofs.lemmas.Bool.Decides.{nat_tests}
@@ -14,8 +14,10 @@ use Rattle.model.specs.Committing.{logged}
 use Rattle.meaning.proofs.Base.{pairs_split}
 use Rattle.meaning.proofs.Members.{In, all_in, all_from_in, has_from_in, pick, in_without, flat_append}
 use Rattle.meaning.proofs.OpensMeans.{opens_means}
+use Rattle.commits.specs.Extends.{sizes}
 use Rattle.commits.specs.Parts.{Part, parts, Grown, longer, made, Leaves, CommitLeaves}
 use Rattle.commits.proofs.HeadBack.{headed}
+use Rattle.commits.proofs.Extended.{sizes_append, extends_as, extends_both}
 use Rattle.commits.proofs.Parting.{parted_from, parted_to, Grew, old, new}
 use Rattle.commits.proofs.Drafts.{blank_drafted}
 use Rattle.commits.proofs.DraftCommitted.{tails_own}
@@ -24,22 +26,32 @@ use Rattle.commits.proofs.Highest.{highest_after}
 
 -- the lists in another order ---------------------------------------------------------------------------------------------
 
-fragments_most : (xs ys : List NodeList) → Pairwise (λ l m. l.id ≢ m.id) xs → ((l : NodeList) → In l xs → In l ys) → length (list_fragments xs) ≤ length (list_fragments ys)
-fragments_most [] ys d k = omega arith
-fragments_most (x ∷ xs) ys (p, d) k =
-    let (as', bs, e) = pick ys x (k x (inl refl)) in
-    let ih = fragments_most xs (as' ++ bs) d (λ l i. elim (in_without as' bs x l (subst (λ w. In l w) e (k l (inr i)))) [
-      | inl q ↦ absurd (all_in (λ m. x.id ≢ m.id) xs l p i (ap (λ (m : NodeList). m.id) q))
-      | inr j ↦ j
-    ]) in
-    let F : NodeList → List Span = λ l. l.fragments in
-    let u : length (list_fragments ys) ≡ length (list_fragments as' ++ (x.fragments ++ list_fragments bs)) = ap length (ap list_fragments e ∙ flat_append F as' (x ∷ bs)) in
-    let v : length (list_fragments (as' ++ bs)) ≡ length (list_fragments as' ++ list_fragments bs) = ap length (flat_append F as' bs) in
-    let a = length-append (list_fragments as') (x.fragments ++ list_fragments bs) in
-    let c = length-append (list_fragments as') (list_fragments bs) in
-    let g = length-append x.fragments (list_fragments bs) in
-    let h = length-append x.fragments (list_fragments xs) in
-    omega arith
+-- a measure that adds up over appended rows, taken of the fragments of lists: no less of those that are among others
+module _ (size : List Span → ℕ) (adds_up : (xs ys : List Span) → size (xs ++ ys) ≡ size xs + size ys) where
+  fragments_most : (xs ys : List NodeList) → Pairwise (λ l m. l.id ≢ m.id) xs → ((l : NodeList) → In l xs → In l ys) → size (list_fragments xs) ≤ size (list_fragments ys)
+  fragments_most [] ys d k = let e = adds_up [] [] in omega arith
+  fragments_most (x ∷ xs) ys (p, d) k =
+      let (as', bs, e) = pick ys x (k x (inl refl)) in
+      let ih = fragments_most xs (as' ++ bs) d (λ l i. elim (in_without as' bs x l (subst (λ w. In l w) e (k l (inr i)))) [
+        | inl q ↦ absurd (all_in (λ m. x.id ≢ m.id) xs l p i (ap (λ (m : NodeList). m.id) q))
+        | inr j ↦ j
+      ]) in
+      let F : NodeList → List Span = λ l. l.fragments in
+      let u : size (list_fragments ys) ≡ size (list_fragments as' ++ (x.fragments ++ list_fragments bs)) = ap size (ap list_fragments e ∙ flat_append F as' (x ∷ bs)) in
+      let v : size (list_fragments (as' ++ bs)) ≡ size (list_fragments as' ++ list_fragments bs) = ap size (flat_append F as' bs) in
+      let a = adds_up (list_fragments as') (x.fragments ++ list_fragments bs) in
+      let c = adds_up (list_fragments as') (list_fragments bs) in
+      let g = adds_up x.fragments (list_fragments bs) in
+      let h = adds_up x.fragments (list_fragments xs) in
+      omega arith
+
+  -- and as much of the same lists in another order
+  fragments_alike : (xs ys : List NodeList) → Pairwise (λ l m. l.id ≢ m.id) xs → Pairwise (λ l m. l.id ≢ m.id) ys → ((l : NodeList) → In l xs → In l ys) → ((l : NodeList) → In l ys → In l xs)
+      → size (list_fragments ys) ≡ size (list_fragments xs)
+  fragments_alike xs ys d e f g =
+      let up = fragments_most xs ys d f in
+      let down = fragments_most ys xs e g in
+      omega arith
 
 -- the lists of a layout, by the tails
 taken_member : (ls : List NodeList) (id : ℕ) → taken id ls ≡ member id (map (λ t. t.id) (map tail_of ls))
@@ -85,8 +97,8 @@ commit_leaves b ceiling s adds guid a _ g o k cs t ot =
     = subst (λ (z : List Tail). AllByRecursion (λ l. find_tail z l.id ≡ tail_of l) r.draft) (sym r.laid.tails) (tails_own r.draft differ) in
     let lg = length-append r.log.fragments (list_fragments r.draft) in
     let lt = length-append r.log.fragments (list_fragments r.lists) in
-    let up = fragments_most r.draft r.lists differ st.from in
-    let down = fragments_most r.lists r.draft st.ids st.to in
+    let number = fragments_alike length length-append r.draft r.lists differ st.ids st.from st.to in
+    let bytes = fragments_alike sizes sizes_append r.draft r.lists differ st.ids st.from st.to in
     let rf = r.fragments in
     let u : Section = record { header = headed s.header (logged s y).end guid; log = r.log; lists = r.lists } in
     subst (λ z. Leaves s adds z) (same_done u t (sym r.opens ∙ ot)) (record {
@@ -97,6 +109,8 @@ commit_leaves b ceiling s adds guid a _ g o k cs t ot =
       last = r.last;
       used = r.used;
       fragments = omega arith;
+      extended = extends_both s.log.fragments (list_fragments s.lists) r.log.fragments (list_fragments r.lists) r.extended
+          (extends_as (list_fragments s.lists) (list_fragments r.draft) (list_fragments r.lists) number bytes r.counting.extended);
       lists = st.same ∙ sym r.laid.lists;
       ids = λ id. taken_same r.draft r.lists id st.from st.to ∙ taken_member r.draft id ∙ ap (λ (z : List Tail). member id (map (λ t. t.id) z)) (sym r.laid.tails);
       tails = all_from_in (λ l. tail_of l ≡ find_tail y.tails l.id) r.lists (λ l i. sym (all_in (λ l. find_tail y.tails l.id ≡ tail_of l) r.draft l each (st.to l i)));

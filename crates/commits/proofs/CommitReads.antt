@@ -23,6 +23,7 @@ use Rattle.meaning.proofs.ReadQueue.{Stock}
 use Rattle.meaning.proofs.MeantOpens.{means_opens}
 use Rattle.meaning.proofs.OpensMeans.{opens_means}
 use Rattle.commits.specs.Laid.{Laid}
+use Rattle.commits.specs.Extends.{Extends}
 use Rattle.commits.specs.Parts.{parts}
 use Rattle.commits.proofs.HeadBack.{headed}
 use Rattle.commits.proofs.Parting.{Parting}
@@ -106,6 +107,7 @@ pub record ReadAfter (b c : List ℕ) (s : Section) (adds : List Add) (guid : Li
   pub last : last_of (span 0 0) log.fragments ≡ last_then s (layout s adds)
   pub used : log.used ≡ used_then s (layout s adds)
   pub fragments : length (log.fragments ++ list_fragments draft) ≡ (logged s (layout s adds)).fragments
+  pub extended : Extends s.log.fragments log.fragments
 
 pub read_after : (b : List ℕ) (ceiling : ℕ) (s : Section) (adds : List Add) (guid : List ℕ) → Bytes b → length guid ≡ 16 → Means b s → DoneAdds ceiling (blank s) adds → Clean (commit_checks ceiling s adds guid)
     → ReadAfter b (applied (applied b (add_writes (blank s) adds)) (committing (applied b (add_writes (blank s) adds)) s adds guid)) s adds guid
@@ -131,6 +133,7 @@ read_after b ceiling s adds guid a g m k cs =
       last = r.last;
       used = r.used;
       fragments = r.fragments;
+      extended = r.extended;
     }
 
 -- as the model states it

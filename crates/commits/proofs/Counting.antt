@@ -7,12 +7,15 @@ use Rattle.std.proofs.lemmas.Bool.Decides.{nat_tests}
 use Rattle.std.proofs.ByRecursion.{All-append, All-weaker}
 use Rattle.model.specs.declared.types.Entry.{Entry}
 use Rattle.model.specs.LogFragments.{entry}
-use Rattle.model.specs.Section.{NodeList, Section, flat, latest, count_in}
+use Rattle.model.specs.References.{span}
+use Rattle.model.specs.Section.{NodeList, Section, flat, latest, count_in, list_fragments}
 use Rattle.model.specs.Means.{Pairwise, CountsLists, Rising}
 use Rattle.model.specs.Layouts.{member, touch, blank}
 use Rattle.meaning.proofs.Base.{all_front, pairs_split}
-use Rattle.commits.proofs.Ties.{map_instead}
 use Rattle.meaning.proofs.Members.{flat_push}
+use Rattle.commits.specs.Extends.{Extends}
+use Rattle.commits.proofs.Ties.{map_instead}
+use Rattle.commits.proofs.Extended.{extends_then, extends_instead, extends_list}
 use Rattle.commits.proofs.Rows.{all_both, pair_between}
 
 -- touched IDs --------------------------------------------------------------------------------------------------------
@@ -164,6 +167,8 @@ pub record Counting (s : Section) (ids : List ℕ) (highest : ℕ) (ls : List No
   pub sources : AllByRecursion (λ e. e.source ≤ highest) (flat s.log.transactions)
   -- the highest ID known is a touched list's, or it is the one before the draft
   pub raised : (member highest ids ≡ true) ⊎ (highest ≡ (blank s).highest)
+  -- the fragments that the draft made are of 1,024 bytes
+  pub extended : Extends (list_fragments s.lists) (list_fragments ls)
 
 touch_all : (P : ℕ → Type 0) (id : ℕ) (ids : List ℕ) → P id → AllByRecursion P ids → AllByRecursion P (touch id ids)
 touch_all P id ids p a = elim (cases_Bool (member id ids)) [
@@ -199,8 +204,8 @@ member_middle (m ∷ pre) l post = elim (cases_Bool (eqb m.id l.id)) [
 ]
 
 pub counting_push : (s : Section) (ids : List ℕ) (highest : ℕ) (pre : List NodeList) (l l' : NodeList) (post : List NodeList) → Pairwise (λ l m. l.id ≢ m.id) (pre ++ (l ∷ post))
-    → l'.id ≡ l.id → length l'.nodes ≡ length l.nodes + 1 → Counting s ids highest (pre ++ (l ∷ post)) → Counting s (touch l.id ids) highest (pre ++ (l' ∷ post))
-counting_push s ids highest pre l l' post d e n c =
+    → l'.id ≡ l.id → length l'.nodes ≡ length l.nodes + 1 → Extends l.fragments l'.fragments → Counting s ids highest (pre ++ (l ∷ post)) → Counting s (touch l.id ids) highest (pre ++ (l' ∷ post))
+counting_push s ids highest pre l l' post d e n x c =
     let q : map (λ (l : NodeList). l.id) (pre ++ (l' ∷ post)) ≡ map (λ (l : NodeList). l.id) (pre ++ (l ∷ post)) = map_instead (λ (l : NodeList). l.id) pre l l' post e in
     record {
       once = touch_once l.id ids c.once;
@@ -211,6 +216,7 @@ counting_push s ids highest pre l l' post d e n c =
         | inl u ↦ inl (touch_keeps highest l.id ids u)
         | inr u ↦ inr u
       ];
+      extended = extends_then (list_fragments s.lists) (list_fragments (pre ++ (l ∷ post))) (list_fragments (pre ++ (l' ∷ post))) c.extended (extends_instead pre l l' post x);
     }
 
 pub latest_absent : (id highest n : ℕ) (es : List Entry) → highest < id → AllByRecursion (λ e. e.source ≤ highest) es → latest id n es ≡ n
@@ -221,8 +227,8 @@ latest_absent id highest n (e ∷ es) h (p, a) =
     ap (λ z. latest id (cond z e.number n) es) q ∙ latest_absent id highest n es h a
 
 pub counting_list : (s : Section) (ids : List ℕ) (highest : ℕ) (ls : List NodeList) (l : NodeList) → AllByRecursion (λ m. m.id ≤ highest) ls → l.id ≡ highest + 1 → length l.nodes ≡ 1
-    → Counting s ids highest ls → Counting s (touch l.id ids) (highest + 1) (ls ++ (l ∷ []))
-counting_list s ids highest ls l d e n c =
+    → (start : ℕ) → l.fragments ≡ span start 1024 ∷ [] → Counting s ids highest ls → Counting s (touch l.id ids) (highest + 1) (ls ++ (l ∷ []))
+counting_list s ids highest ls l d e n start x c =
     let q : map (λ (l : NodeList). l.id) (ls ++ (l ∷ [])) ≡ map (λ (l : NodeList). l.id) ls ++ (l.id ∷ []) = map-append (λ (l : NodeList). l.id) ls (l ∷ []) in
     let z : count_in s.log.transactions l.id ≡ 0 = latest_absent l.id highest 0 (flat s.log.transactions) (omega arith) c.sources in
     record {
@@ -233,4 +239,5 @@ counting_list s ids highest ls l d e n c =
       counts = counts_list s.log.transactions ids ls l (All-weaker (λ m. m.id ≤ highest) (λ m. m.id ≢ l.id) (λ m x y. omega arith) ls d) (omega arith) c.counts;
       sources = All-weaker (λ e. e.source ≤ highest) (λ e. e.source ≤ highest + 1) (λ e x. omega arith) (flat s.log.transactions) c.sources;
       raised = inl (subst (λ z. member z (touch l.id ids) ≡ true) e (touch_same l.id ids));
+      extended = extends_then (list_fragments s.lists) (list_fragments ls) (list_fragments (ls ++ (l ∷ []))) c.extended (extends_list ls l start x);
     }

@@ -20,6 +20,7 @@ use Rattle.model.specs.Committing.{count_entries, new_entries, logged, header_wr
 use Rattle.model.specs.Calls.{past_ceiling, commit_checks}
 use Rattle.meaning.proofs.Base.{Clean}
 use Rattle.commits.specs.Body.{Right, up_to}
+use Rattle.commits.specs.Extends.{Extends}
 use Rattle.commits.proofs.Store.{applied_row}
 use Rattle.commits.proofs.Rows.{all_both}
 use Rattle.commits.proofs.FragmentBack.{Small}
@@ -141,6 +142,7 @@ pub record Committed (c c2 : List ℕ) (s : Section) (y : Layout) (ls : List Nod
   pub last : last_of (span 0 0) log.fragments ≡ last_then s y
   pub used : log.used ≡ used_then s y
   pub fragments : length (log.fragments ++ list_fragments ls) ≡ (logged s y).fragments
+  pub extended : Extends s.log.fragments log.fragments
   pub means : Means c2 (record { header = headed s.header (logged s y).end guid; log = log; lists = ls })
   pub data_same : AllByRecursion (DataSame c c2) (data_spans ls)
 
@@ -179,4 +181,4 @@ commit_done c ceiling s adds ls guid d f g k =
     let D : AllByRecursion (DataSame c c2) (data_spans ls)
     = all_both (λ r. end_of r ≤ y.end) (λ r. Apart L.last r × Apart header_span r) (DataSame c c2) (data_spans ls)
     (λ r u v. (omega arith, omega arith, λ i x z. other_same c c1 y.end L.last L.place 0 0 B r v.0 u i x z ∙ head_kept c1 c2 r r2 v.1 i x z)) d.laid.body.data_inside far in
-    subst (λ (z : List ℕ). Committed c z s y ls guid) (sym q) (record { log = L.log; transactions = L.transactions; last = L.end'; used = L.used; fragments = L.fragments; means = M; data_same = D })
+    subst (λ (z : List ℕ). Committed c z s y ls guid) (sym q) (record { log = L.log; transactions = L.transactions; last = L.end'; used = L.used; fragments = L.fragments; extended = L.extended; means = M; data_same = D })

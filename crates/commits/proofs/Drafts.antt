@@ -30,6 +30,7 @@ use Rattle.commits.proofs.NodeBack.{Fair}
 use Rattle.commits.proofs.PartKept.{spread_ends}
 use Rattle.commits.proofs.Bodies.{body_means}
 use Rattle.commits.proofs.Layouts.{with_node_highest}
+use Rattle.commits.proofs.Extended.{extends_same}
 use Rattle.commits.proofs.Counting.{Counting, Counts}
 use Rattle.commits.proofs.Bounds.{greatest_each, blank_highest, blank_counts}
 use Rattle.commits.proofs.Adds.{Drafted, Stepped, Fine, plain_step, data_step, branch_step}
@@ -151,6 +152,7 @@ blank_counting b s m = record {
   counts = All-weaker (Stands b s.header s.log) (Counts s.log.transactions []) (λ l x. inr (refl, x.counted)) s.lists m.lists;
   sources = greatest_each (λ (e : Entry). e.source) (blank s).highest (flat s.log.transactions) (omega arith);
   raised = inr refl;
+  extended = extends_same (list_fragments s.lists);
 }
 
 pub blank_drafted : (b : List ℕ) (s : Section) → Bytes b → Means b s → Drafted b s (blank s) s.lists × Fine (blank s)

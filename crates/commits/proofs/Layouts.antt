@@ -20,11 +20,13 @@ use Rattle.model.specs.Laws.{last_fragment}
 use Rattle.meaning.proofs.Base.{all_front, DataFits, references}
 use Rattle.commits.specs.Body.{Right, Body, with_one, with_fragment, up_to}
 use Rattle.commits.specs.Laid.{Laid}
+use Rattle.commits.specs.Extends.{Extends}
 use Rattle.commits.specs.Parts.{Part, part, node_part}
 use Rattle.commits.proofs.Sizes.{length_new_fragment}
 use Rattle.commits.proofs.Store.{applied_row}
 use Rattle.meaning.proofs.Growth.{last_push, spread_fragment}
 use Rattle.commits.proofs.Rows.{flat_instead}
+use Rattle.commits.proofs.Extended.{extends_same, extends_one}
 use Rattle.commits.proofs.NodeAdded.{Made, ended, spilt}
 use Rattle.commits.proofs.Bodies.{body_fits, body_spill, row_old}
 use Rattle.commits.proofs.Parting.{PartedTo, parted_push, parted_spill, LengthenedAs, Parting, parting_push}
@@ -105,6 +107,7 @@ pub record Pushed (c : List ℕ) (s : Section) (y : Layout) (n : ℕ → Node) (
   pub first : first_of list ≡ first_of l
   pub parts : AllByRecursion (λ x. x.list ≡ l.id) ps
   pub lengthened : LengthenedAs l.id l list ps
+  pub extended : Extends l.fragments list.fragments
   pub laid : Laid (applied c p.writes) s p.layout (pre ++ (list ∷ post))
   pub rises : y.end ≤ p.layout.end
   pub kept : AllByRecursion (Kept c (applied c p.writes)) (header_span ∷ s.log.fragments)
@@ -136,6 +139,7 @@ pushed_fits c s y pre l post new n d a k =
       parts = tt;
       lengthened = λ qs h. subst (λ z. PartedTo l.id 0 l.fragments (l.nodes ++ (n l.free ∷ [])) (qs ++ []) (l.free + z)) (a.made.size l.free)
           (subst (λ z. PartedTo l.id 0 l.fragments (l.nodes ++ (n l.free ∷ [])) z (l.free + (n l.free).size)) (sym (append-nil qs)) (parted_push l.id (n l.free) h (a.made.place l.free)));
+      extended = extends_same l.fragments;
       laid = record {
         body = bd.0;
         tails = ap (λ z. with_tail z y.tails) (sym t) ∙ ap (λ z. with_tail (tail_of l') z) d.tails ∙ tails_with l' pre l post refl d.body.ids_differ;
@@ -207,6 +211,7 @@ pushed_spills c s y pre l post new n d a x1 x2 x3 =
       lengthened = λ qs h. subst (λ z. PartedTo l.id 0 (l.fragments ++ (fresh ∷ [])) (l.nodes ++ (n (E + 16) ∷ [])) (qs ++ (part l.id (length l.nodes) fresh ∷ [])) (E + 16 + z)) (a.made.size (E + 16))
           (subst (λ z. PartedTo l.id 0 (l.fragments ++ (fresh ∷ [])) (l.nodes ++ (n (E + 16) ∷ [])) (qs ++ (part l.id z fresh ∷ [])) (E + 16 + (n (E + 16)).size)) none
           (parted_spill l.id fresh (n (E + 16)) h (a.made.place (E + 16))));
+      extended = extends_one l.fragments E;
       laid = record {
         body = subst (λ z. Body z (up_to s.header e) gs (pre ++ (l' ∷ post))) (sym q) bd.0;
         tails = ap (λ z. with_tail z y.tails) (sym t) ∙ ap (λ z. with_tail (tail_of l') z) d.tails ∙ tails_with l' pre l post refl d.body.ids_differ;

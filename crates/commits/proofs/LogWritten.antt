@@ -21,12 +21,14 @@ use Rattle.meaning.proofs.Base.{all_front, pairs_split}
 use Rattle.commits.specs.Stored.{Stored}
 use Rattle.commits.specs.Body.{Body, up_to}
 use Rattle.commits.specs.Around.{Around}
+use Rattle.commits.specs.Extends.{Extends}
 use Rattle.commits.proofs.Sizes.{length_span_bytes, length_entry_bytes, length_new_log_fragment}
 use Rattle.commits.proofs.Store.{length_written, same_written, stored_written, stored_same, stored_front, span_stored}
 use Rattle.commits.proofs.FragmentBack.{Small, entries_back, log_fragment_back}
 use Rattle.commits.proofs.HeadBack.{headed}
 use Rattle.meaning.proofs.Growth.{last_all, last_push}
 use Rattle.commits.proofs.Rows.{all_both, all_between, pair_between}
+use Rattle.commits.proofs.Extended.{extends_same, extends_one}
 use Rattle.commits.proofs.Bodies.{all_by_end, past_apart}
 use Rattle.commits.proofs.LogAdded.{LogAgree, Follows, log_fits, log_spills, log_some, split_log, next_inside}
 use Rattle.commits.proofs.Adds.{Drafted, Fine}
@@ -59,6 +61,7 @@ pub record LogDone (c c1 : List ℕ) (s : Section) (y : Layout) (ls : List NodeL
   pub end' : last_of (span 0 0) log.fragments ≡ end
   pub used : log.used ≡ used'
   pub fragments : length (log.fragments ++ list_fragments ls) ≡ number
+  pub extended : Extends s.log.fragments log.fragments
   pub transactions : log.transactions ≡ s.log.transactions ++ (count_entries y ∷ [])
   pub logs : Logs c1 h log
   pub body : Body c1 h log.fragments ls
@@ -127,6 +130,7 @@ log_done_fits c s y ls guid d f w sm p =
       end' = refl;
       used = refl;
       fragments = sym d.laid.fragments;
+      extended = extends_same gs;
       few = f.fragments;
       last = g;
       place = at;
@@ -222,6 +226,7 @@ log_done_spills c s y ls guid fit rest d f w q sf sr p r1 r2 few =
       end' = last_push (span 0 0) gs X;
       used = refl;
       fragments = omega arith;
+      extended = extends_one gs E;
       few = few;
       last = g;
       place = at;

@@ -16,6 +16,7 @@ use Rattle.model.specs.Saving.{at_end, planned, layout}
 use Rattle.model.specs.Committing.{new_entries, count_entries, logged, committing}
 use Rattle.model.specs.Calls.{commit_checks}
 use Rattle.model.specs.Laws.{DoneAdds, add_writes}
+use Rattle.commits.specs.Extends.{Extends}
 
 -- a fragment of the list with this ID, and how many of the list's nodes stand in the fragments before it
 pub record Part : Type 0 where
@@ -91,6 +92,8 @@ pub record Leaves (s : Section) (adds : List Add) (t : Section) : Type 0 where
       (length (drop (entries_in (last_of (span 0 0) s.log.fragments).size - s.log.used) (new_entries (layout s adds))))
       (s.log.used + length (new_entries (layout s adds)))
   pub fragments : length (fragments_of t) ≡ (logged s (layout s adds)).fragments
+  -- those made since are of 1,024 bytes
+  pub extended : Extends (fragments_of s) (fragments_of t)
   -- the lists are those of the draft, each with the tail that the draft has for it
   pub lists : length t.lists ≡ (layout s adds).lists
   pub ids : (id : ℕ) → taken id t.lists ≡ member id (map (λ u. u.id) (layout s adds).tails)

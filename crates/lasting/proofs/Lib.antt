@@ -16,3 +16,4 @@ pub mod InDraft
 pub mod Sounds
 pub mod CutCalls
 pub mod Lasting
+pub mod Unsure

@@ -33,7 +33,7 @@ outside s i w x a = elim (cases_lt i w.place) [
   ]
 ]
 
-all_outside : (s : Section) (i : ℕ) (ws : List Write) → (Free s i → ⊥) → AllByRecursion (WritesFree s) ws → AllByRecursion (Outside i) ws
+pub all_outside : (s : Section) (i : ℕ) (ws : List Write) → (Free s i → ⊥) → AllByRecursion (WritesFree s) ws → AllByRecursion (Outside i) ws
 all_outside s i [] x a = tt
 all_outside s i (w ∷ ws) x a = (outside s i w x a.0, all_outside s i ws x a.1)
 
@@ -42,7 +42,7 @@ module _ (b : List ℕ) (s : Section) (opens : opened b ≡ done s) where
   long = (meant b s opens).header.stored
 
   -- a row that has all bytes that are not free
-  kept : (t : List ℕ) → length b ≤ length t → ((i : ℕ) → (Free s i → ⊥) → get_or t i 0 ≡ get_or b i 0) → SameFile b t s
+  pub kept : (t : List ℕ) → length b ≤ length t → ((i : ℕ) → (Free s i → ⊥) → get_or t i 0 ≡ get_or b i 0) → SameFile b t s
   kept t n h =
       let l = long in
       let used : (i : ℕ) → Footprint s i → get_or t i 0 ≡ get_or b i 0 = λ i f. h i (λ x. free_apart b s opens i f x) in

@@ -1,1 +1,2 @@
 pub mod Uncommitted
+pub mod Unsynced

@@ -4,6 +4,7 @@
 ghost use Rattle.model.specs.Laws.{Local, FreeApart, DraftsWriteFree, WritesTaken, OpensSound, StepsSound, CutsSurvive};
 ghost use Rattle.model.specs.Theorem.{FinishedStatesLast};
 ghost use Rattle.lasting.specs.Uncommitted.{DraftsUnseen};
+ghost use Rattle.lasting.specs.Unsynced.{UnsyncedHarmless};
 
 // bytes that agree on the footprint of an accepted file, and reach its end, are the same file: opened alike, and looked at alike
 pub fn same_footprint_same_file()
@@ -41,6 +42,12 @@ pub fn calls_keep_a_sound_state()
 #[tactic(auto, using(crate::proofs::CutCalls::cuts_survive, commits::proofs::CommitReads::commit_reads, commits::proofs::LooksGrow::looks_grow))]
 pub fn cut_calls_leave_an_accepted_file()
     ensures { CutsSurvive }
+{}
+
+// a disc that keeps of its unsynced writes what it likes, and is synced before each write of a header, holds the file as it was
+#[tactic(auto, using(crate::proofs::Unsure::unsynced_harmless))]
+pub fn unsynced_writes_are_harmless()
+    ensures { UnsyncedHarmless }
 {}
 
 // a store takes every write of every call
