@@ -1,7 +1,7 @@
 //! A list of at most so many values, with room for all of them reserved at once, so that nothing allocates later.
 #![tactic(auto)]
 
-ghost use Rattle.std.specs.Prelude.{◌≡◌, ◌+◌, ◌≤◌, [], ◌∷◌, ◌++◌, IfOk, OnErr, if◌then◌else◌, is_ok, nat_lt, List, length, vec_len, vec_capacity, insert, set, min};
+ghost use Rattle.std.specs.Prelude.{◌≡◌, ◌+◌, ◌≤◌, [], ◌∷◌, ◌++◌, IfOk, OnErr, if◌then◌else◌, is_ok, nat_lt, List, length, vec_len, vec_capacity, insert, set, min, Some, codes};
 
 use std::alloc::{AllocError, Global};
 use std::error::Error;
@@ -13,6 +13,8 @@ use std::marker::Model;
 pub struct Full;
 
 impl fmt::Display for Full {
+    ghost output = { λ _. Some (codes "there is no room for more") };
+
     fn fmt<W: fmt::Write>(&self, f: &mut fmt::Formatter<W>) -> fmt::Result {
         f.write_str("there is no room for more")
     }

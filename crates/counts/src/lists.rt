@@ -44,6 +44,7 @@ impl Lists {
     }
 
     /// The index of a list's newest change, if it has a count.
+    #[tactic(auto, using(crate::proofs::Listed::is_listed))]
     pub(crate) fn newest(&self, list: u32) -> Option<usize>
         ensures { result ≡ listed list self.now.rows.items }
     {

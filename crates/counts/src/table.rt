@@ -37,6 +37,7 @@ pub struct Counts {
 
 impl Counts {
     /// No changes and no transactions, with room for `room` changes.
+    #[tactic(auto, using(crate::proofs::Newest::newest_none, crate::proofs::Newest::most_none))]
     pub fn new(heap: Global, room: usize) -> Result<Counts, AllocError>
         ensures changes { IfOk result (λ t. t.changes.items ≡ []) }
         ensures len { IfOk result (λ t. vec_len t.changes ≡ 0) }
@@ -54,6 +55,7 @@ impl Counts {
     }
 
     /// Lets all changes and transactions go.
+    #[tactic(auto, using(crate::proofs::Newest::newest_none, crate::proofs::Newest::most_none))]
     pub fn clear(&mut self)
         ensures changes { self.new.changes.items ≡ [] }
         ensures len { vec_len self.new.changes ≡ 0 }

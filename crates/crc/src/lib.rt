@@ -60,6 +60,7 @@ impl Default for Crc {
 }
 
 /// The CRC-32 of a slice.
+#[tactic(auto, unfolding(model::specs::Crc::crc_of))]
 pub fn crc32(bytes: &[u8]) -> u32
     ensures { result ≡ crc_of crc_32 bytes.now }
 {

@@ -1,5 +1,5 @@
 //! A buffer with all of its room reserved, so that nothing allocates later.
-ghost use Rattle.std.specs.Prelude.{◌≡◌, ◌+◌, ◌≤◌, [], length, IfOk, if◌then◌else◌, is_ok, vec_len, vec_capacity, nat_le};
+ghost use Rattle.std.specs.Prelude.{◌≡◌, ◌+◌, ◌≤◌, [], length, IfOk, if◌then◌else◌, is_ok, vec_len, vec_capacity, nat_le, Some, codes};
 ghost use Rattle.model.specs.Bytes.{digits, written};
 ghost use Rattle.encoding.specs.Buffers.{pushed, to_eight, zeros};
 
@@ -18,6 +18,8 @@ const NUMBER_BYTES: usize = 8;
 pub struct OutOfRange;
 
 impl fmt::Display for OutOfRange {
+    ghost output = { λ _. Some (codes "the bytes pass the end of what is there") };
+
     fn fmt<W: fmt::Write>(&self, f: &mut fmt::Formatter<W>) -> fmt::Result {
         f.write_str("the bytes pass the end of what is there")
     }

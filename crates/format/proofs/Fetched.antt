@@ -67,6 +67,13 @@ window_read row p n was is (Err x) e z (a, same, q) i h =
     length_none : (row : List ℕ) (p n : ℕ) (was : List ℕ) → n ≡ min (length row - p) (length was) → (p + n ≤ length row → n ≤ length was → ⊥) → length row < p + n
     length_none row p n was e a = elim (cases_lt (length row) (p + n)) [ inl lt ↦ lt | inr ge ↦ absurd (a ge (omega arith)) ]
 
+-- a read that is done and takes the whole buffer makes it a window
+pub window_whole : (row : List ℕ) (p : ℕ) (was is : List ℕ) → p + length was ≤ length row → is ≡ piece row p (length was) ++ drop (length was) was → Window row p is
+unfolding piece
+window_whole row p was is f q i h =
+    let m : length is ≡ length was = ap length q ∙ grind (arith, places) in
+    ap (λ ys. get_or ys i 0) q ∙ grind (arith, places)
+
 -- so a read into a buffer whose part from n on was filled with 0
 pub window_fill : {T : Type 0} (row : List ℕ) (p n : ℕ) (buffer part is : List ℕ) (r : Result T StoreFault) → n ≡ min (length row - p) (length buffer)
     → part ≡ replicate (length (take (length buffer - n) (drop n buffer))) 0 → Reads row p n (take n buffer ++ (part ++ drop (length buffer - n) (drop n buffer))) is r

@@ -15,11 +15,15 @@ pub fn fetch<S: Store>(store: &S, place: u64, buffer: &mut [u8])
 }
 
 /// The `N` bytes at `place`.
+// Mostly all of them are there: then the size of the read is known when this is compiled.
+#[tactic(auto, using(crate::proofs::Fetched::window_whole))]
 pub fn bytes_at<S: Store, const N: usize>(store: &S, place: u64) -> [u8; N]
     ensures { Window (S.Store.bytes store.now) place result }
 {
     let mut bytes = [0; N];
-    fetch(store, place, &mut bytes);
+    if store.read(place, N, &mut bytes).is_err() {
+        fetch(store, place, &mut bytes);
+    }
     bytes
 }
 

@@ -1,6 +1,7 @@
 //! The forms of the numbers in a node's reference.
 ghost use Rattle.std.specs.Prelude.{◌≡◌, ◌*◌, ◌^◌, ◌<◌, ◌≤◌, length};
 ghost use Rattle.model.specs.Bytes.{le};
+ghost use Rattle.model.specs.References.{start_width, size_width, unit};
 
 /// What a format says of a number: how many bytes it takes, and what it counts in. No such number passes 64 bits.
 #[derive(Clone, Copy, PartialEq, Eq, Debug)]
@@ -11,16 +12,16 @@ pub(crate) struct Form {
     ghost fits: { unit * 256 ^ width ≤ 2 ^ 64 },
 }
 
-/// The forms of a start, by the format.
-pub(crate) const START_FORMS: [Form; 4] = [
+// The forms of a start, by the format.
+const START_FORMS: [Form; 4] = [
     Form { width: 8, unit: 1 },
     Form { width: 4, unit: 1 },
     Form { width: 2, unit: 8 },
     Form { width: 4, unit: 8 },
 ];
 
-/// The forms of a size, by the format.
-pub(crate) const SIZE_FORMS: [Form; 4] = [
+// The forms of a size, by the format.
+const SIZE_FORMS: [Form; 4] = [
     Form { width: 4, unit: 1 },
     Form { width: 8, unit: 1 },
     Form { width: 1, unit: 8 },
@@ -30,11 +31,29 @@ pub(crate) const SIZE_FORMS: [Form; 4] = [
 impl Form {
     ghost use Rattle.format.specs.Forms.{IsFormOf};
 
-    /// The form of a format; one past 3 counts as 3.
-    pub(crate) fn of(forms: &[Form; 4], format: u32) -> Form
+    // The form of a format; one past 3 counts as 3.
+    fn of(forms: &[Form; 4], format: u32) -> Form
         ensures { IsFormOf forms.now format result }
     {
         forms[format.min(3) as usize]
+    }
+
+    /// The form of a start in this format.
+    #[tactic(auto, using(crate::proofs::FormSteps::said_width, crate::proofs::FormSteps::said_unit))]
+    pub(crate) fn of_start(format: u32) -> Form
+        ensures width { result.width ≡ start_width format }
+        ensures unit { result.unit ≡ unit format }
+    {
+        Form::of(&START_FORMS, format)
+    }
+
+    /// The form of a size in this format.
+    #[tactic(auto, using(crate::proofs::FormSteps::said_width, crate::proofs::FormSteps::said_unit))]
+    pub(crate) fn of_size(format: u32) -> Form
+        ensures width { result.width ≡ size_width format }
+        ensures unit { result.unit ≡ unit format }
+    {
+        Form::of(&SIZE_FORMS, format)
     }
 
     /// The number in the bytes that it takes.

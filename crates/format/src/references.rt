@@ -4,7 +4,7 @@ ghost use Rattle.model.specs.References.{span_at, absent, start_width, size_widt
 ghost use Rattle.format.specs.Pairs.{reference_of};
 
 use crate::fetching::bytes_at;
-use crate::forms::{Form, SIZE_FORMS, START_FORMS, number};
+use crate::forms::{Form, number};
 use model::types::Span;
 use store::base::Store;
 
@@ -25,15 +25,16 @@ pub fn width(stp: u32, cb: u32) -> usize
     ensures value { result ≡ start_width stp + size_width cb }
     ensures bound { result ≤ 16 }
 {
-    Form::of(&START_FORMS, stp).width + Form::of(&SIZE_FORMS, cb).width
+    Form::of_start(stp).width + Form::of_size(cb).width
 }
 
 /// The start and the size of a node's reference in these formats, if there are so many bytes; the promise is of the pair.
+#[tactic(auto, using(crate::proofs::FormSteps::too_few, crate::proofs::FormSteps::pair_read))]
 pub fn reference(bytes: &[u8], stp: u32, cb: u32) -> Option<(u64, u64)>
     ensures { result ≡ reference_of bytes.now stp cb }
 {
-    let start = Form::of(&START_FORMS, stp);
-    let size = Form::of(&SIZE_FORMS, cb);
+    let start = Form::of_start(stp);
+    let size = Form::of_size(cb);
     let (first, second) = bytes.get(..start.width + size.width)?.split_at(start.width);
     Some((start.read(first), size.read(second)))
 }

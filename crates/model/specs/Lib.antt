@@ -24,3 +24,4 @@ pub mod Theorem
 pub mod Laws
 pub mod Examples
 pub mod Worked
+pub mod Words

@@ -5,7 +5,7 @@
 pub mod limits;
 pub mod marks;
 pub mod types;
-mod words;
+pub mod words;
 pub mod worked;
 
 ghost use Rattle.std.specs.Prelude.{◌≡◌};

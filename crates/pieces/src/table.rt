@@ -60,6 +60,7 @@ impl Pieces {
     }
 
     /// The fragment of a list that has the node with an index: its last one with at most so many nodes before it.
+    #[tactic(auto, using(crate::proofs::Placed::found, crate::proofs::Placed::not_found))]
     pub fn find(&self, list: u32, index: u32) -> Option<Piece>
         ensures { result ≡ last_from index (of_list list self.now.rows) }
     {
@@ -68,6 +69,7 @@ impl Pieces {
     }
 
     /// A list's last fragment.
+    #[tactic(auto, using(crate::proofs::Placed::all_low))]
     pub fn last(&self, list: u32) -> Option<Piece>
         ensures { result ≡ last_piece (of_list list self.now.rows) }
     {
@@ -75,6 +77,7 @@ impl Pieces {
     }
 
     /// Whether a list has fragments.
+    #[tactic(auto, using(crate::proofs::Kept::some_last))]
     pub fn has(&self, list: u32) -> bool
         ensures { result ≡ some_of (of_list list self.now.rows) }
     {

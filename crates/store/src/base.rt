@@ -1,6 +1,7 @@
 //! What a store is, and what its refusals tell.
-ghost use Rattle.std.specs.Prelude.{◌≡◌, ℕ, ◌+◌, ◌^◌, ◌<◌, ◌≤◌, List, [], ◌++◌, length, Decides, slice_index};
+ghost use Rattle.std.specs.Prelude.{◌≡◌, ℕ, ◌+◌, ◌^◌, ◌<◌, ◌≤◌, List, [], ◌++◌, length, Decides, Some, slice_index};
 ghost use Rattle.model.specs.Bytes.{Write, put, applied};
+ghost use Rattle.model.specs.Words.{fault_text};
 ghost use Rattle.store.specs.Refusals.{told};
 ghost use Rattle.store.specs.Rows.{Reads, Writes, if_done};
 
@@ -39,6 +40,8 @@ impl From<StoreFault> for Fault {
 }
 
 impl fmt::Display for StoreFault {
+    ghost output = { λ f. Some (fault_text (told f)) };
+
     fn fmt<W: fmt::Write>(&self, f: &mut fmt::Formatter<W>) -> fmt::Result {
         write!(f, "{}", Fault::from(*self))
     }
@@ -56,6 +59,8 @@ pub struct NotMade<P> {
 }
 
 impl<P> fmt::Display for NotMade<P> {
+    ghost output = { λ e. Some (fault_text (told e.fault)) };
+
     fn fmt<W: fmt::Write>(&self, f: &mut fmt::Formatter<W>) -> fmt::Result {
         write!(f, "{}", self.fault)
     }

@@ -27,6 +27,7 @@ impl Counts {
     }
 
     /// A list's newest count; 0 for a list that was given none, as the definitions have it.
+    #[tactic(auto, using(crate::proofs::Newest::newest_within, crate::proofs::Newest::noted_none, crate::proofs::Newest::noted_some))]
     pub fn latest(&self, list: u32) -> u32
         ensures { result ≡ noted self.now.changes.items list }
     {
