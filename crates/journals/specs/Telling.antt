@@ -1,12 +1,14 @@
 -- Calls of the code and the lines that answer them, in the rules' words.
-use Rattle.std.specs.Prelude.{◌≡◌, Some, None, Ok, Err, Option}
-use Rattle.model.specs.Calls.{Draft, Call, open_file, begin, add, commit, abandon, looking, Answer, accepted, begun, added, made, committed, abandoned, saw, refusal}
+use Rattle.std.specs.Prelude.{◌≡◌, Bool, true, false, cond, Some, None, Ok, Err, Option, ◌==◌}
+use Rattle.model.specs.Section.{Section}
+use Rattle.model.specs.Calls.{Draft, State, Call, open_file, begin, add, commit, abandon, looking, Answer, accepted, begun, added, made, committed, abandoned, saw, refusal}
 use Rattle.model.specs.Looks.{Look, node_look, data_look, alike, Looked}
 use Rattle.refusals.specs.CallRefusals.{save_told}
 use Rattle.refusals.specs.Refusals.{told}
 use Rattle.looks.specs.Answers.{node_answer, data_answer, alike_answer}
 use Rattle.adding.specs.Adds.{add_of}
 use Rattle.section.specs.declared.drafting.Draft as token
+use Rattle.section.specs.Figures.{figures_of}
 use Rattle.section.specs.SavingAnswers.{as_draft, add_answer, abandon_answer}
 use Rattle.journals.specs.declared.calls.Call as code
 use Rattle.journals.specs.declared.calls.Call.TheVariants as calls
@@ -43,39 +45,63 @@ abbrev pub beginning : Option Draft → Option Call
 beginning None = Some begin
 beginning (Some d) = None
 
--- the call of the rules that is made with this draft in hand, if one is
-abbrev pub call_as : Option Draft → code.Call → Option Call
-call_as hand (calls.Open mark) = Some (open_file mark)
-call_as hand calls.Begin = beginning hand
-call_as hand (calls.Add new) = taking hand (λ d. add d (add_of new))
-call_as hand (calls.Commit guid) = taking hand (λ d. commit d guid)
-call_as hand calls.Abandon = taking hand (λ d. abandon d)
-call_as hand (calls.Look l) = Some (looking (look_as l))
+-- an opening was refused for want of room. The rules know no room, so they say nothing of such an opening, and the file stays shut.
+abbrev pub lacks_room : Line → Bool
+lacks_room (lines.Opened (Ok f)) = false
+lacks_room (lines.Opened (Err e)) = (told e).number == 100
+lacks_room (lines.Begun r) = false
+lacks_room (lines.Added r) = false
+lacks_room (lines.Committed r) = false
+lacks_room (lines.Abandoned r) = false
+lacks_room (lines.Saw seen) = false
+lacks_room lines.HasDraft = false
+lacks_room lines.NoDraft = false
+
+-- the call of the rules that is made with this draft in hand and answered by this line, if one is
+abbrev pub call_as : Option Draft → code.Call → Line → Option Call
+call_as hand (calls.Open mark) a = cond (lacks_room a) None (Some (open_file mark))
+call_as hand calls.Begin a = beginning hand
+call_as hand (calls.Add new) a = taking hand (λ d. add d (add_of new))
+call_as hand (calls.Commit guid) a = taking hand (λ d. commit d guid)
+call_as hand calls.Abandon a = taking hand (λ d. abandon d)
+call_as hand (calls.Look l) a = Some (looking (look_as l))
 
 -- the draft that is in hand is the one begun
 abbrev pub begun_in : Option Draft → Option Answer
 begun_in None = None
 begun_in (Some d) = Some (begun d)
 
--- the answer of the rules that a line tells, with the draft that is in hand then; none for a call that was not made, and for an opening,
--- which an opened file always refuses
-abbrev pub answer_as : Option Draft → Line → Option Answer
-answer_as hand (lines.Opened (Ok f)) = None
-answer_as hand (lines.Opened (Err e)) = Some (refusal (told e))
-answer_as hand (lines.Begun (Ok x)) = begun_in hand
-answer_as hand (lines.Begun (Err e)) = Some (refusal (save_told e))
-answer_as hand (lines.Added r) = Some (add_answer r)
-answer_as hand (lines.Committed (Ok x)) = Some committed
-answer_as hand (lines.Committed (Err e)) = Some (refusal (save_told e))
-answer_as hand (lines.Abandoned r) = Some (abandon_answer r)
-answer_as hand (lines.Saw seen) = Some (saw (seen_as seen))
-answer_as hand lines.HasDraft = None
-answer_as hand lines.NoDraft = None
+-- a call that takes no draft and begins none
+abbrev pub NeedsNoDraft : code.Call → Type 0
+NeedsNoDraft (calls.Open mark) = Unit {0}
+NeedsNoDraft calls.Begin = ⊥
+NeedsNoDraft (calls.Add new) = ⊥
+NeedsNoDraft (calls.Commit guid) = ⊥
+NeedsNoDraft calls.Abandon = ⊥
+NeedsNoDraft (calls.Look l) = Unit {0}
 
--- no call was made: there was a draft in hand, or none
-abbrev pub IsNoCall : Option Draft → Line → Type 0
-IsNoCall (Some d) a = a ≡ lines.HasDraft
-IsNoCall None a = a ≡ lines.NoDraft
+-- a line tells an answer of the rules, with the draft that is in hand then: of an accepted section it tells the figures
+abbrev pub TellsAnswer : Option Draft → Line → Answer → Type 0
+TellsAnswer hand (lines.Opened (Ok f)) x = (s : Section) × (f ≡ figures_of s) × (x ≡ accepted s)
+TellsAnswer hand (lines.Opened (Err e)) x = x ≡ refusal (told e)
+TellsAnswer hand (lines.Begun (Ok u)) x = begun_in hand ≡ Some x
+TellsAnswer hand (lines.Begun (Err e)) x = x ≡ refusal (save_told e)
+TellsAnswer hand (lines.Added r) x = x ≡ add_answer r
+TellsAnswer hand (lines.Committed (Ok u)) x = x ≡ committed
+TellsAnswer hand (lines.Committed (Err e)) x = x ≡ refusal (save_told e)
+TellsAnswer hand (lines.Abandoned r) x = x ≡ abandon_answer r
+TellsAnswer hand (lines.Saw seen) x = x ≡ saw (seen_as seen)
+TellsAnswer hand lines.HasDraft x = ⊥
+TellsAnswer hand lines.NoDraft x = ⊥
+
+-- no call of the rules was made: the opening of a shut file lacked room, there was a draft in hand, or none
+abbrev pub IsNoCall : State → code.Call → Line → Type 0
+IsNoCall st (calls.Open mark) a = (lacks_room a ≡ true) × (st.access ≡ None)
+IsNoCall st calls.Begin a = a ≡ lines.HasDraft
+IsNoCall st (calls.Add new) a = a ≡ lines.NoDraft
+IsNoCall st (calls.Commit guid) a = a ≡ lines.NoDraft
+IsNoCall st calls.Abandon a = a ≡ lines.NoDraft
+IsNoCall st (calls.Look l) a = ⊥
 
 -- the draft in hand after an answer: one begun comes into hand, one committed or abandoned leaves it
 abbrev pub answered : Option Draft → Answer → Option Draft

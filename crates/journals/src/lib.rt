@@ -1,7 +1,6 @@
-//! Calls on an opened file, made one after the other and answered a line each: together they are a journal of the rules.
+//! Calls on a file, made one after the other and answered a line each: together they are a journal of the rules.
 #![tactic(auto)]
 
-mod bytes;
 pub mod calls;
 pub mod laws;
 pub mod making;

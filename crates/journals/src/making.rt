@@ -1,26 +1,25 @@
-//! One call on an opened file, with the draft in hand.
-ghost use Rattle.journals.specs.declared.calls.Call.TheVariants.{Begin, Add, Commit, Abandon};
+//! One call on a file, with the draft in hand.
+ghost use Rattle.journals.specs.declared.calls.Call.TheVariants.{Open, Begin, Add, Commit, Abandon};
 ghost use Rattle.std.specs.Prelude.{◌≡◌, None, length};
 ghost use Rattle.model.specs.Bytes.{Bytes};
 ghost use Rattle.journals.specs.declared.calls.Line.TheVariants.{NoDraft};
 ghost use Rattle.journals.specs.Making.{Makes, Shows};
+ghost use Rattle.journals.specs.Telling.{NeedsNoDraft};
 
-use crate::bytes::{adds_bytes, are_bytes};
 use crate::calls::{Call, Line, Look, Made, Seen};
 use adding::adds::NewAdd;
+use section::bytes::{adds_bytes, are_bytes};
 use section::drafting::{Added, Draft, NotCommitted};
 use section::files::File;
 use store::base::{SavingStore, Store};
 
 /// Makes one call, if what is in hand allows it.
 pub fn make<'a, S: SavingStore>(file: &mut File<S>, hand: Option<Draft>, call: Call<'a>) -> Made<'a>
-    ensures { Makes S.Store.bytes S.Store.most S.SavingStore.wrote file.old hand call.entry file.new result.line result.hand }
+    ensures makes { Makes S.Store.bytes S.Store.most S.SavingStore.wrote file.old hand call.entry file.new result.line result.hand }
+    ensures hand { NeedsNoDraft call.entry → result.hand ≡ hand }
 {
     match call {
-        Call::Open { mark } => Made {
-            hand,
-            line: Line::Opened(file.open(mark)),
-        },
+        Call::Open { mark } => open(file, hand, mark),
         Call::Begin => begin(file, hand),
         Call::Add(new) => add(file, hand, new),
         Call::Commit { guid } => commit(file, hand, guid),
@@ -29,6 +28,18 @@ pub fn make<'a, S: SavingStore>(file: &mut File<S>, hand: Option<Draft>, call: C
             hand,
             line: Line::Saw(look(file, at)),
         },
+    }
+}
+
+// An opening; the draft in hand stays there.
+#[tactic(auto, using(crate::proofs::Answered::open_leaves))]
+fn open<'a, S: SavingStore>(file: &mut File<S>, hand: Option<Draft>, mark: u64) -> Made<'a>
+    ensures makes { Makes S.Store.bytes S.Store.most S.SavingStore.wrote file.old hand (Open mark) file.new result.line result.hand }
+    ensures hand { result.hand ≡ hand }
+{
+    Made {
+        hand,
+        line: Line::Opened(file.open(mark)),
     }
 }
 

@@ -1,5 +1,5 @@
 -- An add, by what is planned for it: refused, nothing is changed; done, its writes are made and the draft has one add more.
-use Rattle.std.proofs.Common.{◌≡◌, ℕ, suc, ◌+◌, ◌-◌, ◌^◌, ◌<◌, ◌≤◌, min, true, false, List, [], ◌∷◌, ◌++◌, length, get_or, is_some, Some, None, IsErrAnd, Ok, Err, Option, Result, sym, refl, ap, ap₂, ◌∙◌, subst, arith}
+use Rattle.std.proofs.Common.{◌≡◌, ℕ, suc, ◌+◌, ◌-◌, ◌^◌, ◌<◌, ◌≤◌, min, true, false, List, [], ◌∷◌, ◌++◌, length, get_or, is_some, Some, None, Ok, Err, Option, Result, sym, refl, ap, ap₂, ◌∙◌, subst, arith}
 use Rattle.std.specs.List.{AllByRecursion}
 use Rattle.std.proofs.lemmas.Bool.Decides.{nat_tests}
 use Rattle.std.proofs.ByRecursion.{All-weaker}
@@ -41,8 +41,7 @@ use Rattle.section.specs.Keeping.{Keeps}
 use Rattle.section.specs.States.{InDraft, Knows, StandsFor}
 use Rattle.section.specs.SavingAnswers.{as_draft, add_answer, owned, made_list}
 use Rattle.section.proofs.KeptAgain.{kept_again}
-use Rattle.section.proofs.Calls.{refused_answer, refused_writes, done_answer, done_writes, done_after, knows_at, drafting, bytes_are, opens, Goes, owned_goes, refuses_draft, owner, owned_knows}
-use Rattle.section.proofs.Rests.{stays}
+use Rattle.section.proofs.Calls.{refused_answer, refused_stands, done_answer, done_writes, done_after, knows_at, drafting, bytes_are, opens, Goes, owned_goes, refuses_draft, owner, owned_knows}
 
 -- bytes, by what each is
 pub bytes_each : (xs : List ℕ) → ((i : ℕ) → get_or xs i 0 < 256) → Bytes xs
@@ -89,21 +88,9 @@ added_effect y adds before a =
 add_in : List ℕ → ℕ → Add → Access → List Add → Outcome Effect
 add_in bytes ceiling a y adds = then (opened bytes) (λ s. unless (add_checks ceiling (layout s adds) a) (done (added_effect y adds (layout s adds) a)))
 
--- a refused add
-module _ (b : List ℕ) (most : ℕ) (room : Room) (d : DraftLayout) (o : Option code.Access) (st : State) (k : StandsFor b most room d o st) (c : Call) (e : SaveFault) (refuses : effect st c ≡ refused (save_told e)) where
-  told_refused : (r : Result (Option ℕ) SaveFault) → IsErrAnd r (λ x. x ≡ e) → add_answer r ≡ answer st c
-  told_refused (Ok x) i = absurd i
-  told_refused (Err x) i = ap (λ z. refusal (save_told z)) i ∙ refused_answer st c (save_told e) refuses
-
-  told_stands : StandsFor b most room d o (after st c)
-  told_stands = stays b most room d o st c (save_told e) k refuses
-
-  told_wrote : (Wrote : List Write → Type 0) → Wrote [] → Wrote (writes st c)
-  told_wrote Wrote none = subst Wrote (sym (refused_writes st c (save_told e) refuses)) none
-
 -- the draft is not the one open here
 module _ (b : List ℕ) (most : ℕ) (room : Room) (d : DraftLayout) (o : Option code.Access) (t : token.Draft) (e : SaveFault) (not_own : Err e ≡ owned o t) (a : Add) (st : State) (k : StandsFor b most room d o st) where
-  foreign_add : effect st (add (as_draft t) a) ≡ refused (save_told e)
+  pub foreign_add : effect st (add (as_draft t) a) ≡ refused (save_told e)
   unfolding add_in added_effect
   foreign_add = refuses_draft b most room d t st (add_in st.bytes st.ceiling a) o e not_own k
 
@@ -111,10 +98,7 @@ module _ (b : List ℕ) (most : ℕ) (room : Room) (d : DraftLayout) (o : Option
   foreign_refused = refused_answer st (add (as_draft t) a) (save_told e) foreign_add
 
   pub foreign_stands : StandsFor b most room d o (after st (add (as_draft t) a))
-  foreign_stands = told_stands b most room d o st k (add (as_draft t) a) e foreign_add
-
-  pub foreign_wrote : (Wrote : List Write → Type 0) → Wrote [] → Wrote (writes st (add (as_draft t) a))
-  foreign_wrote = told_wrote b most room d o st k (add (as_draft t) a) e foreign_add
+  foreign_stands = refused_stands b most room d o st k (add (as_draft t) a) e foreign_add
 
 -- the draft is the one open here
 module _ (b : List ℕ) (most : ℕ) (room : Room) (d : DraftLayout) (o : Option code.Access) (t : token.Draft) (a : code.Access) (own : Ok a ≡ owned o t) (ceiling : ℕ) (same : ceiling ≡ most) (new : Add) (fit : FitAdd new)
@@ -159,17 +143,8 @@ module _ (b : List ℕ) (most : ℕ) (room : Room) (d : DraftLayout) (o : Option
   told : (r : Result Step SaveFault) → Told r → Tells most here new r
   told r f = subst (λ c. Tells c here new r) same (f b s g.adds k.keeps.kept (opens k) g.lays within)
 
-  checked_add : (e : SaveFault) → Told (Err e) → effect st call ≡ refused (save_told e)
+  pub checked_add : (e : SaveFault) → Told (Err e) → effect st call ≡ refused (save_told e)
   checked_add e f = goes ∙ (told (Err e) f).0 (done (added_effect y g.adds here new))
-
-  pub checked_refused : (e : SaveFault) → Told (Err e) → (r : Result (Option ℕ) SaveFault) → IsErrAnd r (λ x. x ≡ e) → add_answer r ≡ answer st call
-  checked_refused e f = told_refused b most room d o st stands call e (checked_add e f)
-
-  pub checked_stands : (e : SaveFault) → Told (Err e) → StandsFor b most room d o (after st call)
-  checked_stands e f = told_stands b most room d o st stands call e (checked_add e f)
-
-  pub checked_wrote : (e : SaveFault) → Told (Err e) → (Wrote : List Write → Type 0) → Wrote [] → Wrote (writes st call)
-  checked_wrote e f = told_wrote b most room d o st stands call e (checked_add e f)
 
   -- the add is planned
   module _ (p : Step) (f : Told (Ok p)) where
@@ -247,7 +222,7 @@ module _ (b : List ℕ) (most : ℕ) (room : Room) (d : DraftLayout) (o : Option
       next_keeps : Keeps b' s room a
       next_keeps =
           let h = k.keeps in
-          record { header = h.header; log = h.log; fragments = h.fragments; highest = h.highest; kept = kept_again b b' s (opens_means b' s next_opens).0 room h.kept }
+          record { header = h.header; log = h.log; fragments = h.fragments; used = h.used; highest = h.highest; kept = kept_again b b' s (opens_means b' s next_opens).0 room h.kept }
 
       in_draft : InDraft s room.lists d' a.drafting (Some (g.adds ++ (new ∷ [])))
       in_draft =

@@ -1,14 +1,14 @@
 -- The state that an opened file stands for, and what a call makes of it: refused, nothing; done, what its effect says.
-use Rattle.std.proofs.Common.{◌≡◌, ℕ, Bool, true, false, ◌&&◌, eqb, List, [], Some, None, Ok, Err, Option, sym, refl, ap, ◌∙◌, subst, inl, inr, arith}
+use Rattle.std.proofs.Common.{◌≡◌, ℕ, Bool, true, false, ◌&&◌, eqb, List, [], Some, None, IsErrAnd, Ok, Err, Option, Result, sym, refl, ap, ◌∙◌, subst, inl, inr, arith}
 use Rattle.std.proofs.lemmas.Bool.{cases_Bool}
 use Rattle.std.proofs.lemmas.Bool.Decides.{nat_tests}
 use Rattle.model.specs.declared.types.Fault.{Fault}
-use Rattle.model.specs.Bytes.{applied}
+use Rattle.model.specs.Bytes.{Write, applied}
 use Rattle.model.specs.Faults.{Outcome, done, refused}
 use Rattle.model.specs.Section.{Section}
 use Rattle.model.specs.Opened.{opened}
 use Rattle.model.specs.Layouts.{Add}
-use Rattle.model.specs.Calls.{Access, State, Call, refusal, Effect, when_open, in_draft, saving, effect, answer, writes, after}
+use Rattle.model.specs.Calls.{Access, State, Call, Answer, refusal, Effect, when_open, in_draft, saving, effect, answer, writes, after}
 use Rattle.model.specs.Laws.{adds_of}
 use Rattle.lasting.proofs.Effects.{open_state}
 use Rattle.lasting.proofs.InDraft.{drafted_bytes, Drafting, mid_same}
@@ -54,6 +54,18 @@ module _ (st : State) (c : Call) (x : Effect) (e : effect st c ≡ done x) where
   pub done_after : after st c ≡ record { bytes = applied st.bytes x.writes; ceiling = st.ceiling; access = x.access }
   unfolding after writes
   done_after = rw e refl
+
+-- a call on a file that is refused: told, and nothing else
+module _ (b : List ℕ) (most : ℕ) (room : Room) (d : DraftLayout) (o : Option code.Access) (st : State) (k : StandsFor b most room d o st) (c : Call) (e : SaveFault) (refuses : effect st c ≡ refused (save_told e)) where
+  pub refused_told : {T : Type 0} (said : Result T SaveFault → Answer) → ((x : SaveFault) → said (Err x) ≡ refusal (save_told x)) → (r : Result T SaveFault) → IsErrAnd r (λ x. x ≡ e) → said r ≡ answer st c
+  refused_told said is (Ok x) i = absurd i
+  refused_told said is (Err x) i = is x ∙ ap (λ z. refusal (save_told z)) i ∙ refused_answer st c (save_told e) refuses
+
+  pub refused_stands : StandsFor b most room d o (after st c)
+  refused_stands = subst (StandsFor b most room d o) (sym (refused_after st c (save_told e) refuses)) k
+
+  pub refused_wrote : (Wrote : List Write → Type 0) → Wrote [] → Wrote (writes st c)
+  refused_wrote Wrote none = subst Wrote (sym (refused_writes st c (save_told e) refuses)) none
 
 -- ---- the state of an opened file
 

@@ -8,7 +8,7 @@ use Rattle.model.specs.declared.types.Header.{Header}
 use Rattle.model.specs.Bytes.{Bytes}
 use Rattle.model.specs.References.{span}
 use Rattle.model.specs.LogFragments.{entries_in}
-use Rattle.model.specs.Section.{Section, last_of}
+use Rattle.model.specs.Section.{Section, last_of, fragments_of}
 use Rattle.model.specs.Means.{Inside}
 use Rattle.model.specs.Layouts.{Add, Layout}
 use Rattle.model.specs.Saving.{layout}
@@ -37,6 +37,7 @@ use Rattle.section.specs.declared.access.Access.{Access}
 use Rattle.section.specs.Keeping.{Keeps}
 use Rattle.section.specs.Commits.{Sized, entries_of, fragments_then, file_end, checks_of, writes_by, header_then, access_then}
 use Rattle.section.proofs.Checks.{entries_length}
+use Rattle.section.proofs.Used.{sizes_of, used_more}
 use Rattle.section.proofs.Touched.{none_touched, touched_once, entries_same}
 
 -- ---- numbers
@@ -68,8 +69,14 @@ header_is h t end guid c e g v x l r = rw (sym c, sym e, sym g, sym v, sym x, sy
 
 -- ---- an open draft, of which the code has the layout
 
-module _ {most : ℕ} {start : List ℕ} {s : Section} {adds : List Add} (x : Drafting most start s adds) (d : DraftLayout) (a : Access)
-    (lays : Lays s adds d) (header : a.header ≡ s.header) (ends : EndsLog s a.log) where
+module _ {most : ℕ} {start now : List ℕ} {s : Section} {adds : List Add} {room : Room} (x : Drafting most start s adds) (d : DraftLayout) (a : Access)
+    (lays : Lays s adds d) (keeps : Keeps now s room a) where
+  header : a.header ≡ s.header
+  header = keeps.header
+
+  ends : EndsLog s a.log
+  ends = keeps.log
+
   abbrev y : Layout
   y = layout s adds
 
@@ -102,9 +109,12 @@ module _ {most : ℕ} {start : List ℕ} {s : Section} {adds : List Add} (x : Dr
       let fragments_are = lays.fragments in
       let n = entries_length d.touched in
       let t = touched_number in
+      let used = keeps.used in
+      let sizes = sizes_of start s m in
       record {
         log = record { fragment = log_inside; used = rw (ends.fragment, ends.used) m.log.part.places; end' = omega arith; few = omega arith };
         fragments = omega arith;
+        used = omega arith;
       }
 
   -- ---- the checks
@@ -185,11 +195,12 @@ module _ {most : ℕ} {start : List ℕ} {s : Section} {adds : List Add} (x : Dr
     log_after : EndsLog reads.section (log_then a.log d.end (entries_of d))
     log_after = record { fragment = last_fragment ∙ sym leaves.last; used = last_used ∙ sym leaves.used }
 
-    pub keeps_after : (room : Room) (bytes : List ℕ) → Kept bytes reads.section room → Keeps bytes reads.section room (access_then d a guid)
-    keeps_after room bytes kept = record {
+    pub keeps_after : (new : Room) (bytes : List ℕ) → Kept bytes reads.section new → Keeps bytes reads.section new (access_then d a guid)
+    keeps_after new bytes kept = record {
       header = header_after;
       log = log_after;
       fragments = fragments_same ∙ sym leaves.fragments;
+      used = used_more (fragments_of s) (fragments_of reads.section) a.used a.fragments (fragments_then d a) keeps.used keeps.fragments (fragments_same ∙ sym leaves.fragments) leaves.extended;
       highest = lays.highest ∙ sym leaves.highest;
       kept = kept;
     }

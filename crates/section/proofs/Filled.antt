@@ -1,12 +1,12 @@
 -- What reading a file answers, from what its parts answer.
-use Rattle.std.proofs.Common.{◌≡◌, ℕ, List, [], length, IsErrAnd, Some, None, Ok, Err, vec_items, Option, Result, sym, refl, ap, ◌∙◌, false, arith}
+use Rattle.std.proofs.Common.{◌≡◌, ℕ, ◌+◌, ◌^◌, ◌<◌, List, [], length, IsErrAnd, Some, None, Ok, Err, vec_items, Option, Result, sym, refl, ap, ◌∙◌, subst, false, arith}
 use Rattle.std.proofs.lemmas.List.{take_all}
 use Rattle.model.specs.declared.types.Span.{Span}
 use Rattle.model.specs.declared.types.Header.{Header}
 use Rattle.model.specs.declared.types.Fault.{Fault}
 use Rattle.model.specs.Faults.{done, refused}
 use Rattle.model.specs.References.{span}
-use Rattle.model.specs.Section.{Log, NodeList, Section, last_of}
+use Rattle.model.specs.Section.{Log, NodeList, Section, last_of, fragments_of}
 use Rattle.model.specs.Layouts.{blank}
 use Rattle.model.specs.OpenedLists.{named_first, lists_from}
 use Rattle.model.specs.Opened.{all_data, opened}
@@ -15,6 +15,7 @@ use Rattle.counts.specs.declared.changes.Change.{Change}
 use Rattle.counts.specs.Noted.{noted_most, numbered}
 use Rattle.counts.proofs.Numbered.{entries_numbered}
 use Rattle.meaning.proofs.OpensMeans.{opens_means}
+use Rattle.commits.specs.Extends.{sizes}
 use Rattle.refusals.specs.declared.faults.LogFault.{LogFault}
 use Rattle.refusals.specs.declared.faults.LogFault.TheVariants as log
 use Rattle.refusals.specs.declared.faults.ListFault.{ListFault}
@@ -34,6 +35,7 @@ use Rattle.lists_pass.specs.Opening.{Holds, AllRead}
 use Rattle.data_pass.specs.Files.{Filed}
 use Rattle.section.specs.declared.access.Access.{Access}
 use Rattle.section.specs.OpenAnswers.{opened_in, ReadsAs, ReadsFile}
+use Rattle.section.proofs.Used.{sizes_of}
 use Rattle.section.proofs.Highest.{sources_most, highest_counted}
 use Rattle.section.proofs.Joined.{Right, Logged, log_refused, holds_log, lists_refused, walked_of, data_refused, all_read, in_room}
 
@@ -125,12 +127,13 @@ module _ (b : List ℕ) (h : Header) (capacity : ℕ) (fs : List Span) (cs : Lis
       most_counted : vec_items room.counts.changes ≡ cs → opened b ≡ done found → noted_most (vec_items room.counts.changes) ≡ (blank found).highest
       most_counted c fits = ap noted_most (c ∙ r.2) ∙ ap sources_most (entries_numbered r.0 1) ∙ highest_counted b found (opens_means b found fits).0
 
-      pub reads_as : vec_items room.counts.changes ≡ cs → room.counts.finished ≡ n → ForLists None → (f : Span) (m x : ℕ) → f ≡ last_of (span 0 0) fs → m ≡ length room.fragments
-          → x ≡ noted_most (vec_items room.counts.changes)
-          → ReadsAs mark b capacity room (record { mark = mark; begins = 0; drafting = false; header = h; log = record { fragment = f; used = used }; fragments = m; highest = x })
-      reads_as c f d e m x ends number highest =
+      pub reads_as : vec_items room.counts.changes ≡ cs → room.counts.finished ≡ n → ForLists None → (f : Span) (m u x : ℕ) → f ≡ last_of (span 0 0) fs → m ≡ length room.fragments
+          → (ss : List Span) → ss ≡ room.fragments → (sizes ss < 2 ^ 56 → u ≡ 1024 + sizes ss) → x ≡ noted_most (vec_items room.counts.changes)
+          → ReadsAs mark b capacity room (record { mark = mark; begins = 0; drafting = false; header = h; log = record { fragment = f; used = used }; fragments = m; used = u; highest = x })
+      reads_as c f d e m u x ends number ss same bytes highest =
           let opens = all_read b h capacity log_read all.lists logged_of all.gives (for_lists None d) in
           let fits = in_room b h capacity log_read logged_of ∙ opens in
+          let are : ss ≡ fragments_of found = same ∙ all.fragments in
           record {
             section = found;
             opens = opens;
@@ -139,6 +142,7 @@ module _ (b : List ℕ) (h : Header) (capacity : ℕ) (fs : List Span) (cs : Lis
               header = refl;
               log = record { fragment = ends; used = refl };
               fragments = number ∙ ap length all.fragments;
+              used = bytes (subst (λ w. sizes w < 2 ^ 56) (sym are) (sizes_of b found (opens_means b found fits).0)) ∙ ap (λ w. 1024 + sizes w) are;
               highest = highest ∙ most_counted c fits;
               kept = all_noted (c ∙ r.2) (f ∙ r.3);
             };

@@ -1,12 +1,12 @@
 -- A commit, over the states that a file stands for: refused, nothing changes; done, its writes are made, and no draft is open.
-use Rattle.std.proofs.Common.{◌≡◌, ℕ, ◌<◌, List, [], ◌∷◌, length, Some, None, IsErrAnd, Ok, Err, Option, Result, slice_index, sym, refl, ap, ◌∙◌, subst, zero, suc}
+use Rattle.std.proofs.Common.{◌≡◌, ℕ, ◌<◌, List, [], ◌∷◌, length, Some, None, Ok, Err, Option, slice_index, sym, refl, ap, ◌∙◌, subst, zero, suc}
 use Rattle.model.specs.Bytes.{Bytes, Write, applied}
 use Rattle.model.specs.Faults.{Outcome, done, refused, unless, then}
 use Rattle.model.specs.Section.{Section}
 use Rattle.model.specs.Opened.{opened}
 use Rattle.model.specs.Layouts.{Add}
 use Rattle.model.specs.Committing.{committing}
-use Rattle.model.specs.Calls.{Access, State, commit, committed, refusal, Effect, access_of, commit_checks, effect, answer, writes, after}
+use Rattle.model.specs.Calls.{Access, State, commit, committed, Effect, access_of, commit_checks, effect, answer, writes, after}
 use Rattle.model.specs.Laws.{Taken, adds_of}
 use Rattle.meaning.proofs.Base.{Clean, unless_clean}
 use Rattle.lasting.proofs.Effects.{open_state}
@@ -21,29 +21,14 @@ use Rattle.section.specs.declared.access.Access as code
 use Rattle.section.specs.declared.drafting.Draft as token
 use Rattle.section.specs.States.{Knows, StandsFor}
 use Rattle.section.specs.SavingAnswers.{as_draft, owned}
-use Rattle.section.specs.Commits.{Sized, checks_of, writes_by, KeepsUp, access_then, commit_done}
-use Rattle.section.proofs.Calls.{refused_answer, refused_writes, done_answer, done_writes, done_after, knows_at, drafting, bytes_are, opens, Goes, owned_goes, refuses_draft, owner, owned_knows}
-use Rattle.section.proofs.Rests.{stays}
+use Rattle.section.specs.Commits.{Sized, checks_of, writes_by, KeepsUp, access_then}
+use Rattle.section.proofs.Calls.{done_answer, done_writes, done_after, knows_at, drafting, bytes_are, opens, Goes, owned_goes, refuses_draft, owner, owned_knows}
 use Rattle.section.proofs.Commits.{sized, checks_same, writes_same, sizes, reads, leaves, keeps_after}
 
 -- the bytes of an array
 pub array_bytes : (xs : List ℕ) → ((i : ℕ) → slice_index xs i < 256) → Bytes xs
 array_bytes [] h = tt
 array_bytes (x ∷ xs) h = (h zero, array_bytes xs (λ i. h (suc i)))
-
--- ---- refused
-
-module _ (b : List ℕ) (most : ℕ) (room : Room) (d : DraftLayout) (o : Option code.Access) (t : token.Draft) (guid : List ℕ) (e : SaveFault) (st : State) (k : StandsFor b most room d o st)
-    (fails : effect st (commit (as_draft t) guid) ≡ refused (save_told e)) where
-  pub refused_commit : {T : Type 0} (r : Result T SaveFault) → IsErrAnd r (λ x. x ≡ e) → commit_done r ≡ answer st (commit (as_draft t) guid)
-  refused_commit (Ok x) i = absurd i
-  refused_commit (Err x) i = ap (λ z. refusal (save_told z)) i ∙ refused_answer st (commit (as_draft t) guid) (save_told e) fails
-
-  pub refused_stands : StandsFor b most room d o (after st (commit (as_draft t) guid))
-  refused_stands = stays b most room d o st (commit (as_draft t) guid) (save_told e) k fails
-
-  pub refused_wrote : (W : List Write → Type 0) → W [] → W (writes st (commit (as_draft t) guid))
-  refused_wrote W none = subst W (sym (refused_writes st (commit (as_draft t) guid) (save_told e) fails)) none
 
 abbrev commit_effect : List ℕ → Section → List Add → List ℕ → Access → Effect
 commit_effect b s adds guid y = record { answer = committed; writes = committing b s adds guid; access = access_of y.mark y.begins None }
@@ -91,10 +76,10 @@ module _ (b : List ℕ) (most : ℕ) (room : Room) (d : DraftLayout) (o : Option
       ∙ effect_at b st.bytes most st.ceiling s adds guid y held.bytes held.ceiling (opens held)
 
   size : Sized d a
-  size = sized x d a goes.lays held.keeps.header held.keeps.log
+  size = sized x d a goes.lays held.keeps
 
   same : checks_of most d a guid ≡ commit_checks most s adds guid
-  same = checks_same x d a goes.lays held.keeps.header held.keeps.log guid
+  same = checks_same x d a goes.lays held.keeps guid
 
   -- a check fails
   pub failed_commit : (e : SaveFault) → (Sized d a → (rest : Outcome Effect) → unless (checks_of most d a guid) rest ≡ refused (save_told e))
@@ -117,7 +102,7 @@ module _ (b : List ℕ) (most : ℕ) (room : Room) (d : DraftLayout) (o : Option
 
     module _ (guid_bytes : Bytes guid) (guid_length : length guid ≡ 16) where
       abbrev after_it : Section
-      after_it = (reads x d a goes.lays held.keeps.header held.keeps.log guid guid_bytes guid_length clean).section
+      after_it = (reads x d a goes.lays held.keeps guid guid_bytes guid_length clean).section
 
       taken : Taken (length b) most (committing b s adds guid)
       taken = subst (λ c. Taken (length c) most (committing c s adds guid)) (sym b_is) (commit_taken x guid guid_bytes guid_length clean)
@@ -125,8 +110,8 @@ module _ (b : List ℕ) (most : ℕ) (room : Room) (d : DraftLayout) (o : Option
       -- the writes
       pub wrote_commit : (W : List Write → Type 0) → (Sizes b a.header a.log d.end d.touched guid → Taken (length b) most (writes_by b d a guid) → W (writes_by b d a guid)) → W (writes st (commit (as_draft t) guid))
       wrote_commit W w =
-          let i = writes_same x d a goes.lays held.keeps.header held.keeps.log b guid in
-          subst W (sym are_writes) (subst (λ ws. Taken (length b) most ws → W ws) i (w (sizes x d a goes.lays held.keeps.header held.keeps.log b guid b_is guid_length clean)) taken)
+          let i = writes_same x d a goes.lays held.keeps b guid in
+          subst W (sym are_writes) (subst (λ ws. Taken (length b) most ws → W ws) i (w (sizes x d a goes.lays held.keeps b guid b_is guid_length clean)) taken)
 
       -- what the file stands for then
       module _ (c : List ℕ) (c_is : c ≡ applied b (writes st (commit (as_draft t) guid))) where
@@ -146,11 +131,11 @@ module _ (b : List ℕ) (most : ℕ) (room : Room) (d : DraftLayout) (o : Option
         unfolding applied
         stands_then last same_most room' d' z is keep =
             let h = held.keeps in
-            let r = reads x d a goes.lays h.header h.log guid guid_bytes guid_length clean in
+            let r = reads x d a goes.lays h guid guid_bytes guid_length clean in
             let w = subst (λ p. opened p ≡ done r.section) (sym c_after) r.opens in
             let kept = keep b c s adds r.section (opens held) w (ap (λ (i : Rattle.model.specs.declared.types.Header.Header). i.count) h.header) h.kept goes.lays goes.rowed
-            (leaves x d a goes.lays h.header h.log guid guid_bytes guid_length clean) in
-            let keeps = keeps_after x d a goes.lays h.header h.log guid guid_bytes guid_length clean room' c kept in
+            (leaves x d a goes.lays h guid guid_bytes guid_length clean) in
+            let keeps = keeps_after x d a goes.lays h guid guid_bytes guid_length clean room' c kept in
             let own_state = knows_at c room' d' (access_then d a guid) then_y (committed_drafting x guid guid_bytes guid_length clean r) c_after held.mark held.begins refl keeps in
             subst (λ (u : code.Access). Knows c last room' d' u (after st (commit (as_draft t) guid))) (sym (is size))
             (subst (λ m. Knows c m room' d' (access_then d a guid) (after st (commit (as_draft t) guid))) (sym same_most)

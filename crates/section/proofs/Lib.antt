@@ -1,4 +1,5 @@
 pub mod Joined
+pub mod Used
 pub mod Opens
 pub mod Filled
 pub mod RoomLaws

@@ -2,7 +2,6 @@
 use Rattle.std.proofs.Common.{◌≡◌, ℕ, ◌+◌, ◌^◌, Bool, true, false, leb, ltb, List, [], length, Some, None, Ok, Err, Option, Result, sym, refl, ap, ◌∙◌, subst, inl, inr, arith}
 use Rattle.std.proofs.lemmas.Bool.{cases_Bool, cases_lt}
 use Rattle.std.proofs.lemmas.Bool.Decides.{nat_tests}
-use Rattle.model.specs.declared.types.Fault.{Fault}
 use Rattle.model.specs.declared.types.Header.{Header}
 use Rattle.model.specs.Bytes.{applied}
 use Rattle.model.specs.Faults.{Outcome, done, refused}
@@ -24,12 +23,7 @@ use Rattle.section.specs.declared.drafting.Draft as token
 use Rattle.section.specs.Keeping.{Keeps}
 use Rattle.section.specs.States.{InDraft, Knows, StandsFor}
 use Rattle.section.specs.SavingAnswers.{as_draft, drafting_in, with_draft, begun_in, without_draft, last_draft, owned}
-use Rattle.section.proofs.Calls.{refused_answer, refused_after, done_answer, done_after, knows_at, is_state, drafting, bytes_are, owned_goes, refuses_draft, owner, owned_knows}
-
--- a refused call leaves what the file stands for
-pub stays : (b : List ℕ) (most : ℕ) (room : Room) (d : DraftLayout) (o : Option code.Access) (st : State) (c : Call) (f : Fault) → StandsFor b most room d o st → effect st c ≡ refused f
-    → StandsFor b most room d o (after st c)
-stays b most room d o st c f k e = subst (StandsFor b most room d o) (sym (refused_after st c f e)) k
+use Rattle.section.proofs.Calls.{refused_answer, refused_stands, done_answer, done_after, knows_at, is_state, drafting, bytes_are, owned_goes, refuses_draft, owner, owned_knows}
 
 -- a state of an opened file after a call that writes nothing
 quiet_after : {b : List ℕ} {most : ℕ} {room : Room} {d : DraftLayout} {a : code.Access} {st : State} (k : Knows b most room d a st) (c : Call) (x : Effect) (y : Access) → effect st c ≡ done x → x.writes ≡ [] → x.access ≡ Some y
@@ -38,7 +32,7 @@ unfolding applied
 quiet_after {b} k c x y e none is = done_after _ c x e ∙ rw (none, is, k.bytes, k.ceiling) refl
 
 keeps_on : {b : List ℕ} {s : Section} {room : Room} (a : code.Access) (n : ℕ) (open_here : Bool) → Keeps b s room a → Keeps b s room (drafting_in a n open_here)
-keeps_on a n open_here h = record { header = h.header; log = h.log; fragments = h.fragments; highest = h.highest; kept = h.kept }
+keeps_on a n open_here h = record { header = h.header; log = h.log; fragments = h.fragments; used = h.used; highest = h.highest; kept = h.kept }
 
 -- ---- begin
 
@@ -98,7 +92,7 @@ module _ (b : List ℕ) (most : ℕ) (room : Room) (d : DraftLayout) (o : Option
   begin_refused = refused_answer st begin (save_told e) not_begun
 
   pub begin_stays : StandsFor b most room d o (after st begin)
-  begin_stays = stays b most room d o st begin (save_told e) k not_begun
+  begin_stays = refused_stands b most room d o st k begin e not_begun
 
 module _ (b : List ℕ) (most : ℕ) (room : Room) (d : DraftLayout) (o : Option code.Access) (a : code.Access) (goes : Ok a ≡ begun_in o) (st : State) (k : StandsFor b most room d o st) where
   begins : effect st begin ≡ done (begun_effect a)
@@ -146,7 +140,7 @@ module _ (b : List ℕ) (most : ℕ) (room : Room) (d : DraftLayout) (o : Option
   abandon_refused = refused_answer st (abandon (as_draft t)) (save_told e) not_abandoned
 
   pub abandon_stays : StandsFor b most room d o (after st (abandon (as_draft t)))
-  abandon_stays = stays b most room d o st (abandon (as_draft t)) (save_told e) k not_abandoned
+  abandon_stays = refused_stands b most room d o st k (abandon (as_draft t)) e not_abandoned
 
 -- the draft is the one open here
 module _ (b : List ℕ) (most : ℕ) (room : Room) (d : DraftLayout) (o : Option code.Access) (t : token.Draft) (a : code.Access) (own : Ok a ≡ owned o t) (st : State) (k : StandsFor b most room d o st) where

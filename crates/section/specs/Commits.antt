@@ -1,5 +1,5 @@
 -- A commit in the code: the checks by what the code knows, and what it then knows.
-use Rattle.std.specs.Prelude.{◌≡◌, ℕ, ◌+◌, ◌^◌, ◌≤◌, false, ◌||◌, List, [], ◌∷◌, length, Ok, Err, Result, ◌==◌, nat_le, nat_lt}
+use Rattle.std.specs.Prelude.{◌≡◌, ℕ, ◌+◌, ◌-◌, ◌*◌, ◌^◌, ◌<◌, ◌≤◌, false, ◌||◌, List, [], ◌∷◌, length, Ok, Err, Result, ◌==◌, nat_le, nat_lt}
 use Rattle.model.specs.declared.types.Header.{Header}
 use Rattle.model.specs.Bytes.{same_row, Write}
 use Rattle.model.specs.Faults.{Check, done}
@@ -20,10 +20,11 @@ use Rattle.refusals.specs.declared.calls.SaveFault.{SaveFault}
 use Rattle.refusals.specs.CallRefusals.{save_told}
 use Rattle.section.specs.declared.access.Access.{Access}
 
--- the numbers of a draft that its adds' checks let through
+-- the numbers of a draft that its adds' checks let through, and how many bytes header and fragments have before it
 pub record Sized (d : DraftLayout) (a : Access) : Type 0 where
   pub log : LogSizes a.log d.end (entries_for d.touched)
   pub fragments : d.fragments ≤ 2048
+  pub used : a.used < 2 ^ 57
 
 -- how many entries its commit has: one for each list that the draft touched, and the sentinel; and whether these take a fragment more
 abbrev pub entries_of : DraftLayout → ℕ
@@ -31,6 +32,10 @@ entries_of d = length d.touched + 1
 
 abbrev pub fragments_then : DraftLayout → Access → ℕ
 fragments_then d a = d.fragments + one (runs_out a.log (entries_of d))
+
+-- how many bytes header and fragments have, once there are so many fragments: those made since are of 1,024 bytes
+abbrev pub used_with : Access → ℕ → ℕ
+used_with a fragments = a.used + 1024 * (fragments - a.fragments)
 
 -- the file's end then
 unfoldable pub file_end : DraftLayout → Access → ℕ
@@ -67,6 +72,7 @@ access_then d a guid = record {
   header = header_then a.header (file_end d a) guid;
   log = log_then a.log d.end (entries_of d);
   fragments = fragments_then d a;
+  used = used_with a (fragments_then d a);
   highest = d.highest;
 }
 

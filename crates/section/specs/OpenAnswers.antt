@@ -1,6 +1,7 @@
 -- What open answers.
-use Rattle.std.specs.Prelude.{◌≡◌, ℕ, ◌<◌, ◌≤◌, false, cond, List, [], length, Some, None, Ok, Err, Option, Result, nat_lt, slice_index}
+use Rattle.std.specs.Prelude.{◌≡◌, ℕ, ◌<◌, ◌≤◌, false, cond, List, [], length, Some, None, Ok, Err, Option, Result, ◌==◌, nat_lt, slice_index}
 use Rattle.std.specs.List.{AllByRecursion}
+use Rattle.model.specs.declared.types.Fault.{Fault}
 use Rattle.model.specs.Faults.{fault, Outcome, done, refused, unless, then}
 use Rattle.model.specs.Headers.{header_at}
 use Rattle.model.specs.Section.{Section}
@@ -38,6 +39,10 @@ RoomWants = (room : ℕ) (b : List ℕ) → room < length (all_counts b (header_
 -- whatever the room, what is accepted is what the rules accept
 abbrev pub RoomAccepts : Type 0
 RoomAccepts = (room : ℕ) (b : List ℕ) (s : Section) → opened_in room b ≡ done s → opened b ≡ done s
+
+-- and what is refused, but for want of room, the rules refuse alike
+abbrev pub RoomRefuses : Type 0
+RoomRefuses = (room : ℕ) (b : List ℕ) (f : Fault) → opened_in room b ≡ refused f → (f.number == 100) ≡ false → opened b ≡ refused f
 
 -- an answer as an outcome
 abbrev pub outcome : Result Figures OpenFault → Outcome Figures

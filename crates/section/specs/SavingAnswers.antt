@@ -38,7 +38,7 @@ GivesBack d (Err r) = r.draft ≡ d
 
 -- but for its draft
 abbrev pub drafting_in : Access → ℕ → Bool → Access
-drafting_in a begins drafting = record { mark = a.mark; begins = begins; drafting = drafting; header = a.header; log = a.log; fragments = a.fragments; highest = a.highest }
+drafting_in a begins drafting = record { mark = a.mark; begins = begins; drafting = drafting; header = a.header; log = a.log; fragments = a.fragments; used = a.used; highest = a.highest }
 
 -- what is known of the file if it is open; else 15 shut
 abbrev pub known : Option Access → Result Access SaveFault

@@ -5,13 +5,13 @@ ghost use Rattle.adding.specs.Adds.{add_of};
 
 use adding::adds::{NewAdd, With};
 
-// What a slice holds are bytes.
-pub(crate) fn are_bytes(bytes: &[u8])
+/// What a slice holds are bytes.
+pub fn are_bytes(bytes: &[u8])
     ensures { Bytes bytes.now }
 {}
 
-// What is added are bytes: the payloads and the data.
-pub(crate) fn adds_bytes(new: &NewAdd)
+/// What is added are bytes: the payloads and the data.
+pub fn adds_bytes(new: &NewAdd)
     ensures { FitAdd (add_of new.now) }
 {
     are_bytes(new.payload);

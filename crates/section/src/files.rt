@@ -7,7 +7,7 @@ ghost use Rattle.section.specs.States.{StandsFor, opened_state};
 ghost use Rattle.section.specs.OpenAnswers.{opened_in, outcome, open_answer, Marks, ListsRows};
 
 use crate::access::{Access, Figures};
-use crate::opening::{percent, read_file};
+use crate::opening::read_file;
 use crate::space::Space;
 use drafts::layout::DraftLayout;
 use encoding::buffer::WriteBuffer;
@@ -63,13 +63,7 @@ impl<S: Store> File<S> {
         }
         let access = read_file(&self.store, mark, &mut self.room)?;
         self.access = Some(access);
-        Ok(Figures {
-            count: access.header.count,
-            end: access.header.end,
-            lists: self.room.lists.len(),
-            fragments: access.fragments,
-            percent: percent(self.room.fragments.as_slice(), access.header.end),
-        })
+        Ok(self.figures_by(&access))
     }
 
     /// The lists of an opened file, in the order of opening.

@@ -1,12 +1,12 @@
 //! Saving: the commit of a draft.
-ghost use Rattle.std.specs.Prelude.{◌≡◌, length, IfOk};
+ghost use Rattle.std.specs.Prelude.{◌≡◌, ◌^◌, ◌<◌, ◌≤◌, length, IfOk};
 ghost use Rattle.model.specs.Bytes.{same_row};
 ghost use Rattle.model.specs.Calls.{State, commit, answer, writes, after};
 ghost use Rattle.model.specs.Laws.{Taken};
 ghost use Rattle.committing.specs.CommitWrites.{log_then, Sizes};
 ghost use Rattle.drafts.specs.Plans.{Says};
 ghost use Rattle.section.specs.SavingAnswers.{as_draft, commit_answer, GivesBack};
-ghost use Rattle.section.specs.Commits.{Sized, entries_of, fragments_then, file_end, checks_of, writes_by, KeepsUp, access_then, commit_done};
+ghost use Rattle.section.specs.Commits.{Sized, entries_of, fragments_then, used_with, file_end, checks_of, writes_by, KeepsUp, access_then, commit_done};
 ghost use Rattle.section.specs.States.{StandsFor};
 
 use crate::access::Access;
@@ -21,6 +21,9 @@ use model::limits::MOST_FRAGMENTS;
 use model::types::Header;
 use refusals::calls::SaveFault;
 use store::base::SavingStore;
+
+// A fragment that a draft makes has so many bytes.
+const MADE_BYTES: u64 = 1024;
 
 impl<S: SavingStore> File<S> {
     /// Finishes the draft as one transaction, with a new version of the file. Refused, the draft comes back.
@@ -107,6 +110,7 @@ impl<S: SavingStore> File<S> {
             },
             log,
             fragments,
+            used: used_after(access, fragments),
             highest: self.draft.highest,
             ..*access
         })
@@ -125,6 +129,14 @@ fn fragments_after(draft: &DraftLayout, access: &Access) -> usize
     ensures { Sized draft.now access.now → result ≡ fragments_then draft.now access.now }
 {
     with_more(draft.fragments, access.log.runs_out(entries(draft)))
+}
+
+// How many bytes header and fragments have then, with so many fragments.
+fn used_after(access: &Access, fragments: usize) -> u64
+    ensures { access.now.used < 2 ^ 57 → fragments ≤ 2048 → result ≡ used_with access.now fragments }
+{
+    let made = fragments.saturating_sub(access.fragments) as u64;
+    access.used.saturating_add(MADE_BYTES.saturating_mul(made))
 }
 
 // Where the file and its log end then.

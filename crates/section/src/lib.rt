@@ -2,7 +2,7 @@
 #![tactic(auto)]
 
 pub mod access;
-mod bytes;
+pub mod bytes;
 pub mod drafting;
 pub mod files;
 pub mod finishing;

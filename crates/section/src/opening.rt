@@ -1,8 +1,8 @@
 //! Reading a file: its header, its log, its lists, and then their data references.
-ghost use Rattle.std.specs.Prelude.{◌≡◌, [], ◌+◌, ◌^◌, ◌<◌, ◌≤◌};
+ghost use Rattle.std.specs.Prelude.{◌≡◌, [], ◌+◌, ◌^◌, ◌<◌};
 ghost use Rattle.model.specs.References.{span};
 ghost use Rattle.model.specs.Section.{last_of};
-ghost use Rattle.section.specs.Figures.{sizes, percent_of};
+ghost use Rattle.commits.specs.Extends.{sizes};
 ghost use Rattle.section.specs.OpenAnswers.{ReadsFile};
 
 use crate::access::Access;
@@ -48,6 +48,7 @@ fn read_parts<S: Store>(store: &S, mark: u64, room: &mut Room) -> Result<Access,
         header: checked.header,
         log: LogEnd { fragment, used },
         fragments: room.fragments.len(),
+        used: used_bytes(room.fragments.as_slice()),
         highest: room.counts.highest(),
     })
 }
@@ -63,18 +64,8 @@ fn last_of(fragments: &[Span]) -> Span
         .unwrap_or(Span { start: 0, size: 0 })
 }
 
-// The whole percent of a file with this end that is header and fragments.
-pub(crate) fn percent(fragments: &[Span], end: u64) -> u64
-    ensures { 1 ≤ end → sizes fragments.now < 2 ^ 56 → result ≡ percent_of fragments.now end }
-{
-    used(fragments)
-        .saturating_mul(100)
-        .checked_div(end)
-        .unwrap_or(0)
-}
-
 // How many bytes the header and the fragments have.
-pub(crate) fn used(fragments: &[Span]) -> u64
+fn used_bytes(fragments: &[Span]) -> u64
     ensures { sizes fragments.now < 2 ^ 56 → result ≡ 1024 + sizes fragments.now }
 {
     let mut all: u64 = 1024;

@@ -1,4 +1,6 @@
-use Rattle.std.proofs.Common.{◌≡◌, [], ◌∷◌, List, length, refl, sym, ap, ◌∙◌, arith}
+use Rattle.std.proofs.Common.{◌≡◌, [], ◌∷◌, List, length, refl, sym, ap, subst, ◌∙◌, arith}
+use Rattle.std.specs.List.{AllByRecursion}
+use Rattle.journals.specs.Telling.{NeedsNoDraft}
 use Rattle.journals.proofs.Steps.{going_on, going_last}
 use Rattle.journals.proofs.runs.run.Goals as goal
 
@@ -12,12 +14,15 @@ loop-call-preserved g c =
     let steps = c.in-Some.ensures.steps.0 in
     let fewer = ap length steps in
     let was = at.invariant.3 in
+    let each = at.invariant.4 in
     let len = c.push_reserved.ensures.len in
     let cap = c.push_reserved.ensures.capacity in (
       tt,
       tt,
-      going_on g.S.Store.bytes g.S.Store.most g.S.SavingStore.wrote c.args.file.now c.args.hand c.args.calls.items c.args.lines.now.items g.met.S.SavingStore.more at.file c.make-hand.new.file _ _ at.held _ _ _ _ _ at.invariant.2 steps c.make-hand.ensures c.push_reserved.ensures.items,
+      going_on g.S.Store.bytes g.S.Store.most g.S.SavingStore.wrote c.args.file.now c.args.hand c.args.calls.items c.args.lines.now.items g.met.S.SavingStore.more at.file c.make-hand.new.file _ _ at.held _ _ _ _ _ at.invariant.2 steps c.make-hand.ensures.makes c.push_reserved.ensures.items,
       omega arith,
+      omega arith,
+      λ all. let (quiet, kept) = at.invariant.5 all in let here = subst (AllByRecursion NeedsNoDraft) steps quiet in (here.1, c.make-hand.ensures.hand here.0 ∙ kept),
     )
 
 pub returns-clause-runs : goal.returns-clause-runs

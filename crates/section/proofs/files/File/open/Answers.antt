@@ -1,12 +1,11 @@
-use Rattle.std.proofs.Common.{◌∙◌, sym, arith}
+use Rattle.std.proofs.Common.{◌∙◌, sym}
 use Rattle.section.proofs.Opens.{answer_read}
 use Rattle.section.proofs.States.{open_stands}
 use Rattle.section.proofs.files.File.open.Goals as goal
 
 pub returns-clause-answer : goal.returns-clause-answer
 returns-clause-answer g c =
-    answer_read _ _ _ c.read_file.new.room c.in_ok-access.access c.in_ok-access.ensures.file c.args.self.now.access _ _ _ (sym c.is_some.ensures ∙ c.if-is_some.false) c.as_slice.ensures.spans
-    (omega (arith, c.len.ensures)) c.percent.ensures
+    answer_read _ _ _ c.read_file.new.room c.in_ok-access.access c.in_ok-access.ensures.file c.args.self.now.access _ (sym c.is_some.ensures ∙ c.if-is_some.false) c.figures_by.ensures
 
 pub returns-clause-stands : goal.returns-clause-stands
 returns-clause-stands g c =
