@@ -1,0 +1,3 @@
+pub mod FaultTexts
+pub mod Kinds
+pub mod Texts

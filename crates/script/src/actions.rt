@@ -1,4 +1,8 @@
 //! What a line says.
+ghost use Rattle.std.specs.Prelude.{◌≡◌, take, length, IfOk, IfSome};
+ghost use Rattle.script.specs.Kinds.{kind_word, adding_word, looking_word};
+ghost use Rattle.script.specs.Texts.{adding_in, looking_in, kind_in, verb_word};
+
 use crate::faults::LineFault;
 use crate::letters::Letter;
 use crate::words::Words;
@@ -92,7 +96,9 @@ pub enum Look {
 
 impl Verb {
     /// The word that begins the line of such an action.
-    pub fn word(&self) -> &'static str {
+    pub fn word(&self) -> &'static str
+        ensures { result.now ≡ verb_word self.now }
+    {
         match self {
             Verb::Flat { .. } => "flat",
             Verb::Card { .. } => "card",
@@ -109,7 +115,9 @@ impl Verb {
 
 impl NewWith {
     // The word that begins the line of such an add.
-    fn word(&self) -> &'static str {
+    fn word(&self) -> &'static str
+        ensures { result.now ≡ adding_word (adding_in self.now) }
+    {
         match self {
             NewWith::Nothing => "add",
             NewWith::Data(_) => "data",
@@ -120,7 +128,9 @@ impl NewWith {
 
 impl Look {
     // The word that begins the line of such a look.
-    fn word(&self) -> &'static str {
+    fn word(&self) -> &'static str
+        ensures { result.now ≡ looking_word (looking_in self.now) }
+    {
         match self {
             Look::Node { .. } => "node",
             Look::Piece { .. } => "piece",
@@ -139,8 +149,10 @@ pub struct Action {
     pub verb: Verb,
 }
 
-/// Reads a line. An empty one and a comment say nothing.
-pub fn read(heap: Global, line: &[u8]) -> Result<Option<Action>, LineFault> {
+/// Reads a line. An empty one and a comment say nothing; any other begins with the word of its action.
+pub fn read(heap: Global, line: &[u8]) -> Result<Option<Action>, LineFault>
+    ensures { IfOk result (λ said. IfSome said (λ a. take (length (verb_word a.verb)) line.now ≡ verb_word a.verb)) }
+{
     if line.is_empty() || line[0] == b'#' {
         return Ok(None);
     }
@@ -158,13 +170,31 @@ enum Kind {
     Flat,
     Card,
     Cover,
-    Open,
-    Begin,
-    Add,
+    Adding(Adding),
+    Calling(Calling),
+    Looking(Looking),
+}
+
+// An add.
+#[derive(Clone, Copy, PartialEq, Eq)]
+enum Adding {
+    Plain,
     Data,
     Branch,
+}
+
+// Another call on a file.
+#[derive(Clone, Copy, PartialEq, Eq)]
+enum Calling {
+    Open,
+    Begin,
     Commit,
     Abandon,
+}
+
+// A look.
+#[derive(Clone, Copy, PartialEq, Eq)]
+enum Looking {
     Node,
     Piece,
     Alike,
@@ -173,30 +203,34 @@ enum Kind {
     List,
 }
 
-fn kind_of(word: &[u8]) -> Option<Kind> {
+fn kind_of(word: &[u8]) -> Option<Kind>
+    ensures { IfSome result (λ k. word.now ≡ kind_word k) }
+{
     match word {
         b"flat" => Some(Kind::Flat),
         b"card" => Some(Kind::Card),
         b"cover" => Some(Kind::Cover),
-        b"open" => Some(Kind::Open),
-        b"begin" => Some(Kind::Begin),
-        b"add" => Some(Kind::Add),
-        b"data" => Some(Kind::Data),
-        b"branch" => Some(Kind::Branch),
-        b"commit" => Some(Kind::Commit),
-        b"abandon" => Some(Kind::Abandon),
-        b"node" => Some(Kind::Node),
-        b"piece" => Some(Kind::Piece),
-        b"alike" => Some(Kind::Alike),
-        b"bytes" => Some(Kind::Bytes),
-        b"dump" => Some(Kind::Dump),
-        b"list" => Some(Kind::List),
+        b"open" => Some(Kind::Calling(Calling::Open)),
+        b"begin" => Some(Kind::Calling(Calling::Begin)),
+        b"add" => Some(Kind::Adding(Adding::Plain)),
+        b"data" => Some(Kind::Adding(Adding::Data)),
+        b"branch" => Some(Kind::Adding(Adding::Branch)),
+        b"commit" => Some(Kind::Calling(Calling::Commit)),
+        b"abandon" => Some(Kind::Calling(Calling::Abandon)),
+        b"node" => Some(Kind::Looking(Looking::Node)),
+        b"piece" => Some(Kind::Looking(Looking::Piece)),
+        b"alike" => Some(Kind::Looking(Looking::Alike)),
+        b"bytes" => Some(Kind::Looking(Looking::Bytes)),
+        b"dump" => Some(Kind::Looking(Looking::Dump)),
+        b"list" => Some(Kind::Looking(Looking::List)),
         _ => None,
     }
 }
 
 // The words behind the file's letter.
-fn verb_of(heap: Global, kind: Kind, words: &mut Words) -> Result<Verb, LineFault> {
+fn verb_of(heap: Global, kind: Kind, words: &mut Words) -> Result<Verb, LineFault>
+    ensures { IfOk result (λ v. kind_in v ≡ kind) }
+{
     match kind {
         Kind::Flat => Ok(Verb::Flat {
             len: words.number()?,
@@ -210,72 +244,83 @@ fn verb_of(heap: Global, kind: Kind, words: &mut Words) -> Result<Verb, LineFaul
         Kind::Cover => Ok(Verb::Cover {
             blocks: words.number()?,
         }),
-        Kind::Add | Kind::Data | Kind::Branch => add_of(heap, kind, words),
-        Kind::Open | Kind::Begin | Kind::Commit | Kind::Abandon => call_of(kind, words),
-        _ => Ok(Verb::Look(look_of(kind, words)?)),
+        Kind::Adding(kind) => add_of(heap, kind, words),
+        Kind::Calling(kind) => call_of(kind, words),
+        Kind::Looking(kind) => Ok(Verb::Look(look_of(kind, words)?)),
     }
 }
 
-fn call_of(kind: Kind, words: &mut Words) -> Result<Verb, LineFault> {
+fn call_of(kind: Calling, words: &mut Words) -> Result<Verb, LineFault>
+    ensures { IfOk result (λ v. kind_in v ≡ Kind.Calling kind) }
+{
     match kind {
-        Kind::Open => Ok(Verb::Open {
+        Calling::Open => Ok(Verb::Open {
             mark: words.number()?,
         }),
-        Kind::Begin => Ok(Verb::Begin {
+        Calling::Begin => Ok(Verb::Begin {
             draft: words.letter()?,
         }),
-        Kind::Commit => Ok(Verb::Commit {
+        Calling::Commit => Ok(Verb::Commit {
             draft: words.letter()?,
             guid: words.guid()?,
         }),
-        _ => Ok(Verb::Abandon {
+        Calling::Abandon => Ok(Verb::Abandon {
             draft: words.letter()?,
         }),
     }
 }
 
-fn add_of(heap: Global, kind: Kind, words: &mut Words) -> Result<Verb, LineFault> {
+fn add_of(heap: Global, kind: Adding, words: &mut Words) -> Result<Verb, LineFault>
+    ensures { IfOk result (λ v. kind_in v ≡ Kind.Adding kind) }
+{
     let draft = words.letter()?;
     let list = words.short()?;
     let id = words.short()?;
     let payload = words.bytes(heap)?;
-    let with = match kind {
-        Kind::Data => NewWith::Data(words.bytes(heap)?),
-        Kind::Branch => NewWith::List {
-            id: words.short()?,
-            payload: words.bytes(heap)?,
-        },
-        _ => NewWith::Nothing,
-    };
     let new = NewNode {
         list,
         id,
         payload,
-        with,
+        with: with_of(heap, kind, words)?,
     };
     Ok(Verb::Add { draft, new })
 }
 
-fn look_of(kind: Kind, words: &mut Words) -> Result<Look, LineFault> {
+fn with_of(heap: Global, kind: Adding, words: &mut Words) -> Result<NewWith, LineFault>
+    ensures { IfOk result (λ w. adding_in w ≡ kind) }
+{
     match kind {
-        Kind::Node => Ok(Look::Node {
+        Adding::Plain => Ok(NewWith::Nothing),
+        Adding::Data => Ok(NewWith::Data(words.bytes(heap)?)),
+        Adding::Branch => Ok(NewWith::List {
+            id: words.short()?,
+            payload: words.bytes(heap)?,
+        }),
+    }
+}
+
+fn look_of(kind: Looking, words: &mut Words) -> Result<Look, LineFault>
+    ensures { IfOk result (λ l. looking_in l ≡ kind) }
+{
+    match kind {
+        Looking::Node => Ok(Look::Node {
             at: place_of(words)?,
             room: words.number()?,
         }),
-        Kind::Piece => Ok(Look::Piece {
+        Looking::Piece => Ok(Look::Piece {
             at: place_of(words)?,
             place: words.number()?,
             size: words.number()?,
             room: words.number()?,
         }),
-        Kind::Alike => Ok(Look::Alike {
+        Looking::Alike => Ok(Look::Alike {
             at: place_of(words)?,
             list: words.short()?,
             index: words.number()?,
         }),
-        Kind::Bytes => Ok(Look::Bytes),
-        Kind::Dump => Ok(Look::Dump),
-        _ => Ok(Look::List),
+        Looking::Bytes => Ok(Look::Bytes),
+        Looking::Dump => Ok(Look::Dump),
+        Looking::List => Ok(Look::List),
     }
 }
 

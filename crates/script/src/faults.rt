@@ -1,4 +1,7 @@
 //! Why a line of a script cannot be carried out.
+ghost use Rattle.std.specs.Prelude.{Some};
+ghost use Rattle.script.specs.FaultTexts.{fault_text};
+
 use std::error::Error;
 use std::fmt;
 
@@ -40,6 +43,8 @@ pub enum LineFault {
 }
 
 impl fmt::Display for LineFault {
+    ghost output = { λ e. Some (fault_text e) };
+
     fn fmt<W: fmt::Write>(&self, f: &mut fmt::Formatter<W>) -> fmt::Result {
         f.write_str(match self {
             LineFault::Action => "the first word names no action",

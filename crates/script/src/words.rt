@@ -1,4 +1,6 @@
 //! The words of a line.
+ghost use Rattle.std.specs.Prelude.{◌≡◌, Some, take, length, IfOk, IfSome};
+
 use crate::faults::LineFault;
 use crate::letters::Letter;
 use std::alloc::Global;
@@ -33,12 +35,16 @@ fn byte(pair: [u8; 2]) -> Option<u8> {
 }
 
 impl<'a> Words<'a> {
-    pub(crate) fn of(line: &'a [u8]) -> Words<'a> {
+    pub(crate) fn of(line: &'a [u8]) -> Words<'a>
+        ensures { result.rest ≡ Some line.entry }
+    {
         Words { rest: Some(line) }
     }
 
     /// The next word.
-    pub(crate) fn word(&mut self) -> Result<&'a [u8], LineFault> {
+    pub(crate) fn word(&mut self) -> Result<&'a [u8], LineFault>
+        ensures { IfOk result (λ word. IfSome self.old.rest (λ line. take (length word.now) line.now ≡ word.now)) }
+    {
         let line = self.rest.take().ok_or(LineFault::Missing)?;
         let Some(end) = line.iter().position(|b| *b == b' ') else {
             return Ok(line);

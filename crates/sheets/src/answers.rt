@@ -1,4 +1,5 @@
 //! What an action answers, and how that is printed.
+use journals::calls::{Line, Seen};
 use looks::seen::NodeSeen;
 use model::types::Fault;
 use refusals::calls::{LookFault, SaveFault};
@@ -67,6 +68,29 @@ impl From<LookFault> for Trouble {
 impl From<AllocError> for Trouble {
     fn from(error: AllocError) -> Trouble {
         Trouble::Memory(error)
+    }
+}
+
+/// What the line of a call tells, but for what a look has put into its buffer.
+pub(crate) fn told(line: Line) -> Result<Done, Trouble> {
+    match line {
+        Line::Opened(opened) => Ok(Done::Opened(opened?)),
+        Line::Begun(done) | Line::Committed(done) | Line::Abandoned(done) => {
+            done?;
+            Ok(Done::Nothing)
+        }
+        Line::Added(made) => Ok(made?.map_or(Done::Nothing, Done::Made)),
+        Line::Saw(Seen::Alike(alike)) => Ok(Done::Alike(alike?)),
+        Line::Saw(Seen::Node { node, .. }) => {
+            node?;
+            Ok(Done::Nothing)
+        }
+        Line::Saw(Seen::Data { done, .. }) => {
+            done?;
+            Ok(Done::Nothing)
+        }
+        Line::HasDraft => Err(LineFault::DraftTaken.into()),
+        Line::NoDraft => Err(LineFault::NoDraft.into()),
     }
 }
 

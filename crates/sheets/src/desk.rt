@@ -1,14 +1,15 @@
 //! The files and drafts of a script, and the actions on them.
-use crate::answers::{Done, Trouble};
+use crate::answers::{Done, Trouble, told};
+use crate::calls::{Asked, ask, ask_alone};
 use crate::files::Files;
-use crate::hand::{Hand, Held, Owner, put};
+use crate::hand::{Hand, Held, Owner, put, take};
 use crate::seen::seen;
 use crate::stores::{AnyStore, card, flat};
 use adding::adds::{NewAdd, With};
+use journals::calls::{Call, Line};
 use script::actions::{Action, NewNode, NewWith, Verb};
 use script::faults::LineFault;
 use script::letters::Letter;
-use section::drafting::{Added, NotCommitted};
 use std::alloc::{AllocError, Global};
 use std::io::{self, Write};
 
@@ -40,11 +41,13 @@ impl Desk {
                 self.files.cover(file, blocks)?;
                 Ok(Done::Nothing)
             }
-            Verb::Open { mark } => Ok(Done::Opened(self.files.get(file)?.open(mark)?)),
+            Verb::Open { mark } => {
+                told(ask_alone(self.heap, self.files.get(file)?, Call::Open { mark })?)
+            }
             Verb::Begin { draft } => self.begin(file, draft),
-            Verb::Add { draft, new } => self.add(file, draft, &new),
-            Verb::Commit { draft, guid } => self.commit(file, draft, &guid),
-            Verb::Abandon { draft } => self.abandon(file, draft),
+            Verb::Add { draft, new } => told(self.ask(file, draft, Call::Add(new_add(&new)))?),
+            Verb::Commit { draft, guid } => told(self.ask(file, draft, Call::Commit { guid })?),
+            Verb::Abandon { draft } => told(self.ask(file, draft, Call::Abandon)?),
             Verb::Look(look) => seen(self.heap, self.files.get(file)?, look),
         }
     }
@@ -58,55 +61,31 @@ impl Desk {
         Ok(Done::Nothing)
     }
 
+    // Makes a call on a file, with the draft that a letter has; one that it begins has the letter then.
+    fn ask<'a>(
+        &mut self,
+        file: Letter,
+        letter: Letter,
+        call: Call<'a>,
+    ) -> Result<Line<'a>, Trouble> {
+        let sheet = self.files.get(file)?;
+        let place = self.hand.place(letter);
+        let (owner, hand) = take(place, Owner { file, letter });
+        let Asked { hand, line } = ask(self.heap, sheet, hand, call);
+        put(place, owner, hand);
+        Ok(line?)
+    }
+
     fn begin(&mut self, file: Letter, letter: Letter) -> Result<Done, Trouble> {
-        let sheet = self.files.get(file)?;
-        let place = self.hand.place(letter);
-        if place.is_some() {
-            return Err(LineFault::DraftTaken.into());
+        let line = self.ask(file, letter, Call::Begin)?;
+        told(line)?;
+        match self.hand.place(letter) {
+            Some(Held { owner: _, draft }) => Ok(Done::Begun {
+                mark: draft.mark(),
+                number: draft.number(),
+            }),
+            None => Err(LineFault::NoDraft.into()),
         }
-        let draft = sheet.begin()?;
-        let (mark, number) = (draft.mark(), draft.number());
-        let owner = Owner { file, letter };
-        put(place, Held { owner, draft });
-        Ok(Done::Begun { mark, number })
-    }
-
-    fn add(&mut self, file: Letter, letter: Letter, new: &NewNode) -> Result<Done, Trouble> {
-        let sheet = self.files.get(file)?;
-        let place = self.hand.place(letter);
-        let Some(Held { owner, draft }) = place.take() else {
-            return Err(LineFault::NoDraft.into());
-        };
-        let Added { draft, done } = sheet.add(draft, &new_add(new));
-        put(place, Held { owner, draft });
-        Ok(match done? {
-            None => Done::Nothing,
-            Some(id) => Done::Made(id),
-        })
-    }
-
-    fn commit(&mut self, file: Letter, letter: Letter, guid: &[u8; 16]) -> Result<Done, Trouble> {
-        let sheet = self.files.get(file)?;
-        let place = self.hand.place(letter);
-        let Some(Held { owner, draft }) = place.take() else {
-            return Err(LineFault::NoDraft.into());
-        };
-        match sheet.commit(draft, guid) {
-            Ok(()) => Ok(Done::Nothing),
-            Err(NotCommitted { draft, fault }) => {
-                put(place, Held { owner, draft });
-                Err(fault.into())
-            }
-        }
-    }
-
-    fn abandon(&mut self, file: Letter, letter: Letter) -> Result<Done, Trouble> {
-        let sheet = self.files.get(file)?;
-        let Some(Held { owner: _, draft }) = self.hand.place(letter).take() else {
-            return Err(LineFault::NoDraft.into());
-        };
-        sheet.abandon(draft)?;
-        Ok(Done::Nothing)
     }
 
     /// Abandons the drafts that are still in hand, each on its file, and tells so.

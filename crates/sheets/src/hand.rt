@@ -85,11 +85,24 @@ fn end_place<W: Write>(place: Option<Held>, files: &mut Files, out: &mut W) -> i
     }
 }
 
-/// Puts a draft into its place, which is empty.
-pub(crate) fn put(place: &mut Option<Held>, held: Held)
+/// Takes the draft out of a place, with whose it is: of an empty place, of this owner.
+pub(crate) fn take(place: &mut Option<Held>, owner: Owner) -> (Owner, Option<Draft>)
+    ensures { place.new ≡ None }
+{
+    match place.take() {
+        Some(Held { owner, draft }) => (owner, Some(draft)),
+        None => (owner, None),
+    }
+}
+
+/// Puts what is in hand into its place, which is empty.
+pub(crate) fn put(place: &mut Option<Held>, owner: Owner, hand: Option<Draft>)
     requires { place.old ≡ None }
 {
-    match place.replace(held) {
+    let Some(draft) = hand else {
+        return;
+    };
+    match place.replace(Held { owner, draft }) {
         None => {}
         Some(_) => unreachable!(),
     }

@@ -9,6 +9,7 @@ use std::alloc::Global;
 use std::io::{BufRead, Write};
 
 mod answers;
+mod calls;
 mod desk;
 mod files;
 mod hand;

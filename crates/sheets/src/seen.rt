@@ -1,14 +1,16 @@
 //! Looks at a file.
-use crate::answers::{Done, Trouble};
+use crate::answers::{Done, Trouble, told};
+use crate::calls::ask_alone;
 use crate::stores::Sheet;
 use crc::crc32;
+use journals::calls::{self, Call, Line, Seen};
 use lines::Listing;
 use script::actions::{Look, Place};
 use std::alloc::{AllocError, Global};
 use store::base::Store;
 
 /// What a look at a file tells.
-pub(crate) fn seen(heap: Global, file: &Sheet, look: Look) -> Result<Done, Trouble> {
+pub(crate) fn seen(heap: Global, file: &mut Sheet, look: Look) -> Result<Done, Trouble> {
     match look {
         Look::Node { at, room } => node(heap, file, at, room),
         Look::Piece {
@@ -16,15 +18,16 @@ pub(crate) fn seen(heap: Global, file: &Sheet, look: Look) -> Result<Done, Troub
             place,
             size,
             room,
-        } => {
-            let mut buffer = buffer(heap, file, room)?;
-            file.data(at.k, at.list, at.index, place, size, buffer.as_mut_slice())?;
-            buffer.truncate(size as usize);
-            Ok(Done::Bytes(buffer))
-        }
+        } => piece(heap, file, at, place, size, room),
         Look::Alike { at, list, index } => {
-            let alike = file.alike(at.k, at.list, at.index, list, index)?;
-            Ok(Done::Alike(alike))
+            let at = calls::Look::Alike {
+                k: at.k,
+                list: at.list,
+                index: at.index,
+                other_list: list,
+                other_index: index,
+            };
+            told(ask_alone(heap, file, Call::Look(at))?)
         }
         Look::Bytes => Ok(Done::Row {
             len: file.store().len(),
@@ -36,14 +39,44 @@ pub(crate) fn seen(heap: Global, file: &Sheet, look: Look) -> Result<Done, Troub
     }
 }
 
-fn node(heap: Global, file: &Sheet, at: Place, room: u64) -> Result<Done, Trouble> {
-    let mut buffer = buffer(heap, file, room)?;
-    let seen = file.node(at.k, at.list, at.index, buffer.as_mut_slice())?;
-    buffer.truncate(seen.payload);
-    Ok(Done::Node {
-        seen,
-        payload: buffer,
-    })
+fn node(heap: Global, file: &mut Sheet, at: Place, room: u64) -> Result<Done, Trouble> {
+    let mut payload = buffer(heap, file, room)?;
+    let at = calls::Look::Node {
+        k: at.k,
+        list: at.list,
+        index: at.index,
+        buffer: payload.as_mut_slice(),
+    };
+    match ask_alone(heap, file, Call::Look(at))? {
+        Line::Saw(Seen::Node { node, buffer: _ }) => {
+            let seen = node?;
+            payload.truncate(seen.payload);
+            Ok(Done::Node { seen, payload })
+        }
+        line => told(line),
+    }
+}
+
+fn piece(
+    heap: Global,
+    file: &mut Sheet,
+    at: Place,
+    place: u64,
+    size: u64,
+    room: u64,
+) -> Result<Done, Trouble> {
+    let mut bytes = buffer(heap, file, room)?;
+    let at = calls::Look::Data {
+        k: at.k,
+        list: at.list,
+        index: at.index,
+        place,
+        size,
+        buffer: bytes.as_mut_slice(),
+    };
+    told(ask_alone(heap, file, Call::Look(at))?)?;
+    bytes.truncate(size as usize);
+    Ok(Done::Bytes(bytes))
 }
 
 // A buffer for a look with so much room. What a look brings stands in the store, so no more is ever needed than that is long.
