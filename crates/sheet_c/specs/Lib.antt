@@ -1,0 +1,4 @@
+pub mod Shapes
+pub mod Extends
+pub mod Shows
+pub mod Opening
