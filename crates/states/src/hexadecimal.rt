@@ -1,4 +1,6 @@
 //! The front of some bytes in hexadecimal.
+ghost use Rattle.std.specs.Prelude.{◌≡◌, min, take, nat_lt};
+
 use std::fmt;
 
 /// How many bytes are shown.
@@ -13,7 +15,10 @@ pub(crate) struct Front<'a> {
 
 impl Front<'_> {
     /// The front of `size` bytes, of which these are the first.
-    pub fn of(bytes: &[u8], size: u64) -> Front<'_> {
+    pub fn of(bytes: &[u8], size: u64) -> Front<'_>
+        ensures bytes { result.bytes.now ≡ take (min size 16) bytes.now }
+        ensures more { result.more ≡ nat_lt 16 size }
+    {
         let shown = size.min(SHOWN as u64) as usize;
         Front {
             bytes: bytes.get(..shown).unwrap_or(bytes),

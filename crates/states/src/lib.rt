@@ -1,4 +1,4 @@
-//! The finished states of an opened file as text: at each count, the nodes that its lists had then.
+//! The finished states of an opened file as text: at each count, the nodes that its lists had then, or those that the last transaction added.
 //! All of it comes through looks, so nothing that is not finished is shown.
 #![tactic(auto)]
 
@@ -7,8 +7,10 @@ use format::nodes::Target;
 use hexadecimal::{Front, SHOWN};
 use section::files::File;
 use std::fmt;
+use std::ops::Range;
 use store::base::Store;
 
+pub mod additions;
 mod columns;
 mod hexadecimal;
 
@@ -24,20 +26,26 @@ pub struct States<'a, S> {
 
 impl<S: Store> fmt::Display for States<'_, S> {
     fn fmt<W: fmt::Write>(&self, f: &mut fmt::Formatter<W>) -> fmt::Result {
-        let mut buffer = [0u8; MOST_PAYLOAD];
         for k in 1..=u64::from(self.count) {
-            writeln!(f, "count {k}")?;
-            State { file: self.file, k }.put_lists(f, &mut buffer)?;
+            f.write(State { file: self.file, k })?;
         }
         Ok(())
     }
 }
 
-// The file as it was when `k` transactions were finished. A look that is refused ends the text with an error.
+/// The file as it was when `k` transactions were finished. A look that is refused ends the text with an error.
 #[derive(Drop)]
-struct State<'a, S> {
-    file: &'a File<S>,
-    k: u64,
+pub struct State<'a, S> {
+    pub file: &'a File<S>,
+    pub k: u64,
+}
+
+impl<S: Store> fmt::Display for State<'_, S> {
+    fn fmt<W: fmt::Write>(&self, f: &mut fmt::Formatter<W>) -> fmt::Result {
+        let mut buffer = [0u8; MOST_PAYLOAD];
+        writeln!(f, "count {}", self.k)?;
+        self.put_lists(f, &mut buffer)
+    }
 }
 
 impl<S: Store> State<'_, S> {
@@ -51,21 +59,21 @@ impl<S: Store> State<'_, S> {
             let nodes = self.file.count_at(self.k, list.id).map_err(|_| fmt::Error)?;
             if nodes > 0 {
                 writeln!(f, "  list {}: {nodes} nodes", list.id)?;
-                self.put_nodes(f, list.id, nodes, buffer)?;
+                self.put_nodes(f, list.id, 0..nodes, buffer)?;
             }
         }
         Ok(())
     }
 
-    // A list's nodes, with the data that they refer to.
+    // The nodes of a list with these indices, and the data that they refer to.
     fn put_nodes<W: fmt::Write>(
         &self,
         f: &mut fmt::Formatter<W>,
         list: u32,
-        nodes: u32,
+        nodes: Range<u32>,
         buffer: &mut [u8],
     ) -> fmt::Result {
-        for index in 0..u64::from(nodes) {
+        for index in u64::from(nodes.start)..u64::from(nodes.end) {
             let node = self
                 .file
                 .node(self.k, list, index, buffer)
