@@ -112,7 +112,7 @@ fn touched_at(touched: &Bounded<Tail, MOST_TOUCHED>, list: u32) -> Option<usize>
 }
 
 // The list with this tail is touched.
-#[tactic(auto, using(crate::proofs::Tails::put_at))]
+#[tactic(auto, using(crate::proofs::Tails::put_at, crate::proofs::Tails::put_pushed))]
 fn touch(touched: &mut Bounded<Tail, MOST_TOUCHED>, tail: Tail)
     ensures { length (put_tail tail touched.old) ≤ 16 → touched.new ≡ put_tail tail touched.old }
 {
