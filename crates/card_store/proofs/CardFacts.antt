@@ -1,10 +1,10 @@
 -- What a card's own invariant says of its row.
-use Rattle.std.proofs.Common.{◌≡◌, ℕ, ◌+◌, ◌*◌, ◌%◌, ◌<◌, ◌≤◌, List, length, take, vec_items, vec_len, arith}
+use Rattle.std.proofs.Common.{◌≡◌, ℕ, ◌+◌, ◌*◌, ◌%◌, ◌<◌, ◌≤◌, List, length, get_or, take, sym, vec_items, vec_len, arith}
 use Rattle.model.specs.Bytes.{piece, written}
 use Rattle.card_store.specs.declared.Card.{Card}
 use Rattle.card_store.specs.Cards.{card_row, spot, Inside}
 use Rattle.std.proofs.lemmas.List.{length-take-le}
-use Rattle.card_store.proofs.CardRows.{length_card_row, row_part, row_written}
+use Rattle.card_store.proofs.CardRows.{length_card_row, get_or_card_row, row_part, row_written}
 
 abbrev pub row_of : Card → List ℕ
 row_of d = card_row (vec_items d.buffer) (vec_items d.blocks)
@@ -20,6 +20,9 @@ module _ (d : Card) where
   length_bytes = length-take-le d.len _ (omega (arith, length_row, d.within))
 
   module _ (k : ℕ) where
+    pub byte_of : k < 512 * vec_len d.blocks → get_or (vec_items d.buffer) (spot (vec_items d.blocks) k) 0 ≡ get_or (row_of d) k 0
+    byte_of h = sym (get_or_card_row (vec_items d.buffer) (vec_items d.blocks) k card_inside (omega (arith, d.blocks.ok.0)))
+
     pub part_of : (n : ℕ) → k % 512 + n ≤ 512 → k + n ≤ 512 * vec_len d.blocks → 0 < n → piece (row_of d) k n ≡ piece (vec_items d.buffer) (spot (vec_items d.blocks) k) n
     part_of n one within some = row_part (vec_items d.buffer) (vec_items d.blocks) k n card_inside one (omega (arith, d.blocks.ok.0)) some
 

@@ -1,8 +1,13 @@
 -- A read and a write, part by part.
-use Rattle.std.proofs.Common.{◌≡◌, ℕ, ◌+◌, ◌-◌, ◌≤◌, List, ◌++◌, length, take, drop, arith, rules}
-use Rattle.std.proofs.lemmas.List.{same_lists, places}
+use Rattle.std.proofs.Common.{◌≡◌, ℕ, ◌+◌, ◌-◌, ◌≤◌, List, ◌++◌, length, get_or, take, drop, set, arith, rules}
+use Rattle.std.proofs.lemmas.List.{same_lists, places, get_or-set_same, get_or_default}
 use borrow.Rule.Slice.PartMut.{put_mid}
 use Rattle.model.specs.Bytes.{piece, written}
+
+-- a read of one byte
+pub read_one : (row was : List ℕ) (k p n x : ℕ) → n ≡ 1 → p + n ≤ k → k ≤ length row → n ≤ length was → x ≡ get_or row p 0 → set was 0 x ≡ piece (take k row) p n ++ drop n was
+unfolding piece
+read_one row was k p n x o a b d e = rw e (same_lists _ _ (search (rules, places)) (λ j f h. let r = get_or_default row p 0 f (omega arith) in grind (arith, places, get_or-set_same)))
 
 -- n more bytes of a read
 pub read_on : (row was xs ys : List ℕ) (p i n : ℕ) → p + i + n ≤ length row → i + n ≤ length was → xs ≡ piece row p i ++ drop i was → ys ≡ piece row (p + i) n

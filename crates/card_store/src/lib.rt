@@ -127,6 +127,11 @@ impl Card {
         requires buffer { n ≤ length into.old }
         ensures { into.new ≡ piece (take self.now.len (card_row self.now.buffer.items self.now.blocks.items)) p n ++ drop n into.old }
     {
+        // one byte is no part to be copied
+        if n == 1 {
+            into[0] = self.buffer[self.spot_of(p)];
+            return;
+        }
         let mut done = 0;
         while done < n {
             let k = p + done;

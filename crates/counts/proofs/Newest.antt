@@ -1,6 +1,7 @@
 -- The newest change of a list, and what one more change does.
-use Rattle.std.proofs.Common.{◌≡◌, ℕ, zero, suc, ◌+◌, ◌<◌, ◌≤◌, max, Bool, true, false, cond, ◌&&◌, eqb, leb, List, [], ◌∷◌, ◌++◌, map, length, get_or, take, filter, Option, Some, None, MatchOption, sym, refl, ap, ◌∙◌, inl, inr, arith}
-use Rattle.std.specs.Option.{option_map_or}
+use Rattle.std.proofs.Common.{◌≡◌, ℕ, zero, suc, ◌+◌, ◌<◌, ◌≤◌, max, Bool, true, false, cond, ◌&&◌, eqb, leb, ltb, List, [], ◌∷◌, ◌++◌, map, length, get_or, take, filter, Option, Some, None, MatchOption, sym, refl, ap, ◌∙◌, inl, inr, arith}
+use Rattle.std.specs.Option.{option_map_or, unwrap_or}
+use Rattle.std.specs.Bool.{then_some}
 use Rattle.std.specs.List.{All, AllPairs}
 use Rattle.std.proofs.lemmas.List.Elements.{All-push}
 use Rattle.std.proofs.lemmas.List.Quantifiers.{all_pairs_push}
@@ -14,7 +15,7 @@ use Rattle.model.specs.Layouts.{greatest}
 use Rattle.bounded.proofs.Filters.{filter_all}
 use Rattle.counts.specs.declared.changes.Change.{Change}
 use Rattle.counts.specs.Noted.{entry_of, entries, noted, noted_at, noted_most}
-use Rattle.counts.specs.Chains.{no_change, list_at, newest_in, listed}
+use Rattle.counts.specs.Chains.{no_change, list_at, newest_in, listed, link_of}
 use Rattle.counts.specs.declared.changes.Counted.{Counted}
 
 -- what some of the changes say, those that a test keeps
@@ -104,6 +105,20 @@ pub falls : (cs : List Change) (i : ℕ) (at : Option ℕ) → at ≡ newest_in 
 unfolding after
 falls cs i at link = rw link (omega (arith, newest_below (list_at cs i) cs i))
 
+-- the index beside a change tells the one before it by standing below its own, and that there is none by being its own
+below_own : (o : Option ℕ) (i b : ℕ) → after o ≤ i → b ≡ link_of i o → o ≡ then_some (ltb b i) b
+unfolding after
+below_own None i b h e = grind (arith, nat_tests)
+below_own (Some j) i b h e = grind (arith, nat_tests)
+
+pub link_tells : (cs : List Change) (i b : ℕ) → b ≡ link_of i (newest_in (list_at cs i) cs i) → newest_in (list_at cs i) cs i ≡ then_some (ltb b i) b
+link_tells cs i b link = below_own (newest_in (list_at cs i) cs i) i b (newest_below (list_at cs i) cs i) link
+
+-- and it is what a table writes there
+link_written : (o : Option ℕ) (i : ℕ) → unwrap_or o i ≡ link_of i o
+link_written None i = refl
+link_written (Some j) i = refl
+
 module _ (cs : List Change) (len : ℕ) (long : len ≡ length cs) (k id : ℕ) where
   keep : Change → Bool
   keep c = leb c.transaction k
@@ -178,19 +193,19 @@ module _ (cs ds : List Change) (c : Change) (n m : ℕ) (long : n ≡ length cs)
   pub newest_added : (id : ℕ) (a b : Option ℕ) → a ≡ cond (eqb c.list id) (Some n) b → b ≡ newest_in id cs n → a ≡ newest_in id ds m
   newest_added id a b e f = e ∙ ap (λ z. cond (eqb c.list id) (Some n) z) f ∙ sym (rw (items, more) (newest_push id cs c n (sym long)))
 
-  pub linked_added : (bs es : List (Option ℕ)) (b : Option ℕ) → n ≡ length bs → es ≡ bs ++ b ∷ [] → b ≡ newest_in c.list cs n
-      → ((i : ℕ) → i < n → get_or bs i None ≡ newest_in (list_at cs i) cs i)
-      → (i : ℕ) → i < m → get_or es i None ≡ newest_in (list_at ds i) ds i
+  pub linked_added : (bs es : List ℕ) (b : ℕ) → n ≡ length bs → es ≡ bs ++ b ∷ [] → b ≡ unwrap_or (newest_in c.list cs n) n
+      → ((i : ℕ) → i < n → get_or bs i 0 ≡ link_of i (newest_in (list_at cs i) cs i))
+      → (i : ℕ) → i < m → get_or es i 0 ≡ link_of i (newest_in (list_at ds i) ds i)
   linked_added bs es b size is e f i h = elim (cases_lt i n) [
     | inl l ↦
         let p : list_at (cs ++ c ∷ []) i ≡ list_at cs i = ap (λ x. x.list) (get_or_append_left cs (c ∷ []) no_change i (omega arith)) in
         let q = newest_earlier (list_at cs i) cs c i (omega arith) in
-        rw (is, items, p, q) (get_or_append_left bs (b ∷ []) None i (omega arith) ∙ f i l)
+        rw (is, items, p, q) (get_or_append_left bs (b ∷ []) 0 i (omega arith) ∙ f i l)
     | inr l ↦
         let z : i ≡ n = omega arith in
         let p : list_at (cs ++ c ∷ []) n ≡ c.list = ap (λ x. x.list) (get_or_push cs c no_change n (sym long)) in
         let q = newest_earlier c.list cs c n (omega arith) in
-        rw (is, items, z, p, q) (get_or_push bs b None n (sym size) ∙ e)
+        rw (is, items, z, p, q) (get_or_push bs b 0 n (sym size) ∙ e ∙ link_written (newest_in c.list cs n) n)
   ]
 
   pub most_added : (a b : ℕ) → a ≡ max b c.list → b ≡ noted_most cs → a ≡ noted_most ds

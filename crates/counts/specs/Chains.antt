@@ -20,3 +20,8 @@ newest_in id cs (suc n) = cond (list_at cs n == id) (Some n) (newest_in id cs n)
 unfoldable pub listed : ℕ → List Counted → Option ℕ
 listed id [] = None
 listed id (x ∷ xs) = cond (x.list == id) (Some x.newest) (listed id xs)
+
+-- the index beside the i-th change: that of its list's change before it, and i where it is the list's first
+abbrev pub link_of : ℕ → Option ℕ → ℕ
+link_of i None = i
+link_of i (Some j) = j

@@ -1,7 +1,7 @@
 //! The changes in the order of the log, and the lists in the order of their IDs.
-ghost use Rattle.std.specs.Prelude.{◌≡◌, ℕ, ◌+◌, ◌^◌, ◌<◌, ◌≤◌, min, false, [], ◌∷◌, ◌++◌, All, AllPairs, IfOk, None, if◌then◌else◌, is_ok, vec_len, vec_capacity, nat_lt, slice_index_or};
+ghost use Rattle.std.specs.Prelude.{◌≡◌, ℕ, ◌+◌, ◌^◌, ◌<◌, ◌≤◌, min, false, [], ◌∷◌, ◌++◌, All, AllPairs, IfOk, if◌then◌else◌, is_ok, vec_len, vec_capacity, nat_lt, slice_index};
 ghost use Rattle.counts.specs.Noted.{change, noted_most};
-ghost use Rattle.counts.specs.Chains.{list_at, newest_in, listed};
+ghost use Rattle.counts.specs.Chains.{list_at, newest_in, listed, link_of};
 
 use crate::changes::Change;
 use crate::lists::Lists;
@@ -13,13 +13,15 @@ mod reads;
 // Counting stops here. No log has so many transactions, since each takes bytes of a file.
 const LAST: u64 = 1 << 63;
 
-/// The changes in the order of the log, each list with its newest one, and for each change the index of its list's change before it.
+/// The changes in the order of the log, each list with its newest one, and for each change the index of its list's change before it,
+/// or its own where it is the list's first.
 /// The room is known only when it is made, so no `Bounded` holds them.
 #[derive(Drop)]
 pub struct Counts {
     changes: Vec<Change>,
-    // not in the rows of the changes: the promises speak of the changes alone, in the order of the log
-    links: Vec<Option<usize>>,
+    // not in the rows of the changes: the promises speak of the changes alone, in the order of the log;
+    // a list's first change has its own index here, since an `Option` of an index takes twice the memory
+    links: Vec<usize>,
     lists: Lists,
     room: usize,
     finished: u64,
@@ -29,7 +31,7 @@ pub struct Counts {
     ghost few: { (vec_len lists.rows ≤ vec_len changes) × (room ≤ vec_capacity lists.rows) },
     ghost countable: { finished ≤ 2 ^ 63 },
     ghost newest: { (id : ℕ) → listed id lists.rows.items ≡ newest_in id changes.items (vec_len changes) },
-    ghost linked: { (i : ℕ) → i < vec_len changes → slice_index_or links.items i None ≡ newest_in (list_at changes.items i) changes.items i },
+    ghost linked: { (i : ℕ) → i < vec_len changes → slice_index links.items i ≡ link_of i (newest_in (list_at changes.items i) changes.items i) },
     ghost early: { All (λ c. c.transaction ≤ finished + 1) changes.items },
     ghost steady: { AllPairs (λ c d. c.transaction ≤ d.transaction) changes.items },
     ghost most: { highest ≡ noted_most changes.items },
@@ -92,8 +94,9 @@ impl Counts {
         if self.changes.len() >= self.room {
             return Err(Full);
         }
-        let before = self.lists.set_newest(list, self.changes.len());
-        self.links.push_reserved(before);
+        let i = self.changes.len();
+        let before = self.lists.set_newest(list, i);
+        self.links.push_reserved(before.unwrap_or(i));
         self.changes.push_reserved(Change {
             transaction: self.finished + 1,
             list,

@@ -90,6 +90,10 @@ impl Pieces {
         ensures rows { (id : ℕ) → of_list id self.new.rows ≡ (if is_ok result then put_in piece id (of_list id self.old.rows) else of_list id self.old.rows) }
         ensures len { length self.new.rows ≡ (if is_ok result then length self.old.rows + 1 else length self.old.rows) }
     {
+        // a full table is not searched
+        if self.rows.len() >= MOST_FRAGMENTS {
+            return Err(Full);
+        }
         let at = self.place_behind(piece.list, piece.from);
         self.rows.insert(at, piece)
     }

@@ -1,12 +1,11 @@
 -- Ranges in the order of their starts: which of them a range can meet, and what one more leaves in order.
-use Rattle.std.proofs.Common.{◌≡◌, ℕ, zero, suc, ◌-◌, ◌<◌, ◌≤◌, Bool, true, false, ◌||◌, ltb, min, cond, List, [], ◌∷◌, ◌++◌, length, get_or, take, drop, Option, Some, None, Result, Ok, Err, is_ok, OnOk, sym, refl, ap, ◌∙◌, inl, inr, arith}
+use Rattle.std.proofs.Common.{◌≡◌, ℕ, zero, suc, ◌+◌, ◌-◌, ◌<◌, ◌≤◌, Bool, true, false, ◌||◌, min, cond, List, [], ◌∷◌, ◌++◌, length, get_or, take, drop, Option, Some, None, Result, Ok, Err, is_ok, OnOk, sym, refl, ap, ◌∙◌, inl, inr, arith}
 use Rattle.std.specs.Option.{MatchOption}
-use Rattle.std.specs.List.{All, AllPairs, insert, list_any}
-use Rattle.std.specs.List.Sorted.{IsNonDecreasingBy, IsPartitionedBy, IsPartitionPoint}
+use Rattle.std.specs.List.{All, AllWithin, AllPairs, insert, list_any}
+use Rattle.std.specs.List.Sorted.{IsNonDecreasingBy, IsPartitionPoint}
 use Rattle.std.specs.Slice.{IsGetResult}
-use Rattle.std.proofs.lemmas.List.{take-append-drop}
+use Rattle.std.proofs.lemmas.List.{take-append-drop, get_or_default}
 use Rattle.std.proofs.lemmas.List.Elements.{All-tail, All-drop}
-use Rattle.std.proofs.lemmas.List.Sorted.{IsPartitionedBy-ltb}
 use Rattle.std.proofs.lemmas.List.Folds.{list_any_none}
 use Rattle.std.proofs.lemmas.Bool.{cases_lt, cases_Bool}
 use Rattle.std.proofs.lemmas.Bool.Decides.{nat_tests}
@@ -81,9 +80,13 @@ module _ (ss : List Span) (some : All (λ s. 0 < s.size) ss) (apart : Apart ss) 
     | inr b ↦ let e : i ≡ j = omega arith in rw e (omega arith)
   ]
 
-  -- what a search by the starts asks, and what it finds
-  pub parted : (start : ℕ) → IsPartitionedBy (λ s. ltb s.start start) ss
-  parted start = IsPartitionedBy-ltb (λ s. s.start) ss start rising
+  -- where one starts below a place, so do all up to it
+  pub low_to : (start m : ℕ) (d : Span) → m < length ss → (get_or ss m d).start < start → AllWithin (λ s. s.start < start) ss 0 (m + 1)
+  low_to start m d within below k e h l = omega (arith, rising k m e (omega arith) within, ap (λ s. s.start) (get_or_default ss m d e within))
+
+  -- where one does not, neither does any from it on
+  pub high_from : (start m : ℕ) (d : Span) → m < length ss → start ≤ (get_or ss m d).start → AllWithin (λ s. start ≤ s.start) ss m (length ss)
+  high_from start m d within above k e h l = omega (arith, rising m k e h l, ap (λ s. s.start) (get_or_default ss m d e within))
 
   -- only the two beside its place can meet a range
   module _ (r : Span) (i : ℕ) (place : IsPartitionPoint (λ s. s.start < r.start) (λ s. r.start ≤ s.start) ss i)

@@ -1,6 +1,7 @@
 //! What a table of counts answers.
-ghost use Rattle.std.specs.Prelude.{◌≡◌, ◌-◌, vec_len};
+ghost use Rattle.std.specs.Prelude.{◌≡◌, ◌-◌, ◌<◌, vec_len};
 ghost use Rattle.counts.specs.Noted.{noted, noted_at, noted_most};
+ghost use Rattle.counts.specs.Chains.{list_at, newest_in};
 
 use crate::table::Counts;
 
@@ -37,6 +38,16 @@ impl Counts {
         }
     }
 
+    // The change of the same list before a change, if there is one.
+    #[tactic(auto, using(crate::proofs::Newest::link_tells, std::proofs::lemmas::List::get_or_read_under))]
+    fn before(&self, i: usize) -> Option<usize>
+        requires { i < vec_len self.now.changes }
+        ensures { result ≡ newest_in (list_at self.now.changes.items i) self.now.changes.items i }
+    {
+        let before = self.links[i];
+        (before < i).then_some(before)
+    }
+
     /// A list's count after `k` transactions, by its changes from the newest one back.
     pub fn count_at(&self, k: u32, list: u32) -> u32
         ensures { result ≡ noted_at self.now.changes.items k list }
@@ -47,7 +58,7 @@ impl Counts {
             if change.transaction <= u64::from(k) {
                 return change.count;
             }
-            at = self.links[i];
+            at = self.before(i);
         }
         0
     }

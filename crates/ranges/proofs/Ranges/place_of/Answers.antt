@@ -1,13 +1,17 @@
--- The ranges are in the order of their starts, so the search finds its place.
-use Rattle.std.proofs.Common.{ltb, arith, rules}
-use Rattle.std.proofs.lemmas.List.Sorted.{IsPartitionPoint-from_clause}
-use Rattle.std.proofs.lemmas.Bool.Decides.{nat_tests}
-use Rattle.ranges.proofs.Order.{parted}
+-- The starts rise, so what holds at `middle` holds of all before it, or of all from it on.
+use Rattle.std.proofs.Common.{arith}
+use Rattle.model.specs.References.{span}
+use Rattle.ranges.proofs.Order.{low_to, high_from}
 use Rattle.ranges.proofs.Ranges.place_of.Goals as goal
 
-pub returns-clause-parts : goal.returns-clause-parts
-returns-clause-parts c =
+pub loop-low-preserved-then-spans-middle : goal.loop-low-preserved-then-spans-middle
+loop-low-preserved-then-spans-middle c =
     let d = c.args.self.now in
-    let found = IsPartitionPoint-from_clause (λ s. ltb s.start c.args.start) _ _ (rw c.as_slice.ensures.values at c.partition_point.ensures.partitioned)
-    (parted _ d.some d.ordered c.args.start) (λ a r f k. search rules) in
-    (λ k e h l. let below = found.0 k e h l in grind (arith, nat_tests), λ k e h l. let above = found.1 k e h l in grind (arith, nat_tests))
+    let below = rw c.as_slice-spans.ensures.values at c.if-spans-middle.true in
+    (omega arith, omega arith, low_to _ d.some d.ordered _ _ (span 0 0) (omega arith) below, c.loop-low.invariant.3)
+
+pub loop-low-preserved : goal.loop-low-preserved
+loop-low-preserved c =
+    let d = c.args.self.now in
+    let above = rw c.as_slice-spans.ensures.values at c.if-spans-middle.false in
+    (omega arith, omega arith, c.loop-low.invariant.2, high_from _ d.some d.ordered _ _ (span 0 0) (omega arith) above)
