@@ -16,12 +16,11 @@ use Rattle.tables.specs.Rows.{rows_of}
 use Rattle.tables.specs.Kept.{Indexed}
 use Rattle.pieces.specs.declared.piece.Piece.{Piece}
 
--- the room holds a log: its counts and its fragments, and no list and no piece yet
-pub record Holds (log : Log) (cs : List Change) (all : List Span) (rows : List Row) (ps : List Piece) : Type 0 where
+-- the room holds a log: its counts and its fragments, and no list yet
+pub record Holds (log : Log) (cs : List Change) (all : List Span) (rows : List Row) : Type 0 where
   pub counts : (id : ℕ) → noted cs id ≡ count_in log.transactions id
   pub fragments : all ≡ log.fragments
   pub none : rows ≡ []
-  pub no_piece : ps ≡ []
 
 -- n lists were read: what is left to read gives what the whole gives
 pub record Opening (b : List ℕ) (h : Header) (log : Log) (n : ℕ) (rows : List Row) (ps : List Piece) (all : List Span) (queue : List Named) : Type 0 where

@@ -55,9 +55,11 @@ pub fn read_lists<S: Store>(
     checked: &CheckedHeader,
     room: &mut Room,
 ) -> Result<(), InList>
-    ensures answer { (log : Log) → Holds log room.old.counts.changes.items room.old.fragments room.old.lists room.old.pieces.rows → room.old.queue ≡ [] → ReadsAll (S.Store.bytes store.now) checked.now.header log room.new.lists room.new.pieces.rows room.new.fragments result }
+    ensures answer { (log : Log) → Holds log room.old.counts.changes.items room.old.fragments room.old.lists → room.old.queue ≡ [] → ReadsAll (S.Store.bytes store.now) checked.now.header log room.new.lists room.new.pieces.rows room.new.fragments result }
     ensures counts { room.new.counts ≡ room.old.counts }
 {
+    // no piece of an earlier file is left
+    room.pieces.clear();
     name_first(&checked.header, &mut room.queue);
     read_named(store, checked, room)
 }
@@ -76,7 +78,8 @@ fn name_first(header: &Header, queue: &mut Queue)
 // Store, header and room are no struct here: the room is lent again in parts at each step, and only it changes.
 #[tactic(auto, using(crate::proofs::Openings::opening_none))]
 fn read_named<S: Store>(store: &S, checked: &CheckedHeader, room: &mut Room) -> Result<(), InList>
-    ensures answer { (log : Log) → Holds log room.old.counts.changes.items room.old.fragments room.old.lists room.old.pieces.rows → Held room.old.queue (named_first checked.now.header) → ReadsAll (S.Store.bytes store.now) checked.now.header log room.new.lists room.new.pieces.rows room.new.fragments result }
+    requires { room.old.pieces.rows ≡ [] }
+    ensures answer { (log : Log) → Holds log room.old.counts.changes.items room.old.fragments room.old.lists → Held room.old.queue (named_first checked.now.header) → ReadsAll (S.Store.bytes store.now) checked.now.header log room.new.lists room.new.pieces.rows room.new.fragments result }
     ensures counts { room.new.counts ≡ room.old.counts }
 {
     for next in 0..MOST_LISTS + 1 {

@@ -29,7 +29,6 @@ use Rattle.tables.specs.declared.room.Room.{Room}
 use Rattle.tables.specs.declared.room.Row.{Row}
 use Rattle.tables.specs.Kept.{Kept}
 use Rattle.tables.specs.declared.queue.Named.{Named}
-use Rattle.pieces.specs.declared.piece.Piece.{Piece}
 use Rattle.log_pass.specs.Logs.{whole_log, all_counts, Refuses, LogRead}
 use Rattle.lists_pass.specs.Opening.{Holds, AllRead}
 use Rattle.data_pass.specs.Files.{Filed}
@@ -70,7 +69,7 @@ log_err mark b h capacity room r x i right t =
 
 -- the header is right, and the log was read into a room that holds no list and no name of one
 module _ (b : List ℕ) (h : Header) (capacity : ℕ) (fs : List Span) (cs : List Change) (n used : ℕ) (right : Right b h capacity) (r : LogRead b h capacity fs cs n (Ok used))
-    (old : List Row) (named : List Named) (ps : List Piece) (none : old ≡ []) (empty : named ≡ []) (bare : ps ≡ []) where
+    (old : List Row) (named : List Named) (none : old ≡ []) (empty : named ≡ []) where
   abbrev log_read : Log
   log_read = record { fragments = fs; transactions = r.0; used = used }
 
@@ -79,10 +78,10 @@ module _ (b : List ℕ) (h : Header) (capacity : ℕ) (fs : List Span) (cs : Lis
 
   -- what is answered for each log that the room holds
   abbrev pub ForLogs : (Log → Type 0) → Type 0
-  ForLogs P = (log : Log) → Holds log cs fs old ps → named ≡ [] → P log
+  ForLogs P = (log : Log) → Holds log cs fs old → named ≡ [] → P log
 
   for_log : (P : Log → Type 0) → ForLogs P → P log_read
-  for_log P a = a log_read (holds_log b h capacity fs r.0 used cs old ps r.2 none bare) empty
+  for_log P a = a log_read (holds_log b h capacity fs r.0 used cs old r.2 none) empty
 
   module _ (mark : ℕ) (room : Room) where
     list_err : (y : Result Access OpenFault) (e : InList) → IsErrAnd y (λ z. z ≡ opening.List e) → opened_in capacity b ≡ refused (list_told e) → ReadsFile mark b capacity room y
@@ -146,6 +145,7 @@ module _ (b : List ℕ) (h : Header) (capacity : ℕ) (fs : List Span) (cs : Lis
               highest = highest ∙ most_counted c fits;
               kept = all_noted (c ∙ r.2) (f ∙ r.3);
             };
+            full = record { changes = c ∙ r.2; finished = f ∙ r.3; fragments = ap length all.fragments };
             marked = (refl, refl, refl);
             filed = filed;
           }

@@ -25,7 +25,6 @@ use Rattle.refusals.specs.Refusals.{log_told}
 use Rattle.refusals.specs.Checked.{told_by}
 use Rattle.refusals.proofs.Told.{unless_told, unless_none}
 use Rattle.tables.specs.declared.room.Row.{Row}
-use Rattle.pieces.specs.declared.piece.Piece.{Piece}
 use Rattle.log_pass.specs.Logs.{whole_log, all_counts, Refuses}
 use Rattle.lists_pass.specs.Opening.{Holds}
 use Rattle.section.specs.OpenAnswers.{within_room, opened_in}
@@ -81,13 +80,12 @@ module _ (b : List ℕ) (h : Header) (capacity : ℕ) where
       let o = headed d.right in
       subst (LogTells b h) d.gives (log_tells b h (sym (ap (λ (x : Header). x.log) o.fields)) o.counts)
 
-  pub holds_log : (fs : List Span) (ts : List (List Entry)) (used : ℕ) (cs : List Change) (rows : List Row) (ps : List Piece) → cs ≡ numbered 1 ts → rows ≡ [] → ps ≡ []
-      → Holds (record { fragments = fs; transactions = ts; used = used }) cs fs rows ps
-  holds_log fs ts used cs rows ps e n p = record {
+  pub holds_log : (fs : List Span) (ts : List (List Entry)) (used : ℕ) (cs : List Change) (rows : List Row) → cs ≡ numbered 1 ts → rows ≡ []
+      → Holds (record { fragments = fs; transactions = ts; used = used }) cs fs rows
+  holds_log fs ts used cs rows e n = record {
     counts = λ id. ap (λ xs. noted xs id) e ∙ ap (latest id 0) (entries_numbered ts 1);
     fragments = refl;
     none = n;
-    no_piece = p;
   }
 
   log_on : (l : Log) → Logged l → opened_in capacity b ≡ part_lists b h l

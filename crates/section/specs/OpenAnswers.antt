@@ -1,11 +1,12 @@
 -- What open answers.
-use Rattle.std.specs.Prelude.{◌≡◌, ℕ, ◌<◌, ◌≤◌, false, cond, List, [], length, Some, None, Ok, Err, Option, Result, ◌==◌, nat_lt, slice_index}
+use Rattle.std.specs.Prelude.{◌≡◌, ℕ, ◌<◌, ◌≤◌, false, cond, List, [], length, Some, None, Ok, Err, Option, Result, ◌==◌, nat_lt, slice_index, vec_items}
 use Rattle.std.specs.List.{AllByRecursion}
 use Rattle.model.specs.declared.types.Fault.{Fault}
 use Rattle.model.specs.Faults.{fault, Outcome, done, refused, unless, then}
 use Rattle.model.specs.Headers.{header_at}
-use Rattle.model.specs.Section.{Section}
+use Rattle.model.specs.Section.{Section, fragments_of}
 use Rattle.model.specs.Opened.{header_checks, part_log, opened}
+use Rattle.counts.specs.Noted.{numbered}
 use Rattle.log_pass.specs.Logs.{all_counts}
 use Rattle.refusals.specs.declared.faults.OpenFault.{OpenFault}
 use Rattle.refusals.specs.Refusals.{told}
@@ -70,12 +71,24 @@ abbrev pub ListsRows : Outcome Section → List Row → Type 0
 ListsRows (done s) rows = rows ≡ rows_of (length s.log.fragments) s.lists
 ListsRows (refused f) rows = f.layer ≡ 1 → rows ≡ []
 
+-- the tables are full: they have every count of the finished log, and every fragment
+pub record Full (s : Section) (room : Room) : Type 0 where
+  pub changes : vec_items room.counts.changes ≡ numbered 1 s.log.transactions
+  pub finished : room.counts.finished ≡ length s.log.transactions
+  pub fragments : length room.fragments ≡ length (fragments_of s)
+
+-- an accepted file was read whole into the tables; a commit may later find no room for its counts
+abbrev pub Fills : Outcome Section → Room → Type 0
+Fills (done s) room = Full s room
+Fills (refused f) room = Unit {0}
+
 -- a file was read: it is accepted, and the tables hold it
 pub record ReadsAs (mark : ℕ) (b : List ℕ) (capacity : ℕ) (room : Room) (a : Access) : Type 0 where
   pub section : Section
   pub opens : opened_in capacity b ≡ done section
   pub fits : opened b ≡ done section
   pub keeps : Keeps b section room a
+  pub full : Full section room
   pub marked : Fresh mark a
   pub filed : Filed section.log section.lists room.lists room.fragments
 

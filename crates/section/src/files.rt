@@ -4,7 +4,7 @@ ghost use Rattle.section.specs.Keeping.{Sound};
 ghost use Rattle.model.specs.Calls.{State};
 ghost use Rattle.model.specs.Journal.{shut};
 ghost use Rattle.section.specs.States.{StandsFor, opened_state};
-ghost use Rattle.section.specs.OpenAnswers.{opened_in, outcome, open_answer, Marks, ListsRows};
+ghost use Rattle.section.specs.OpenAnswers.{opened_in, outcome, open_answer, Marks, ListsRows, Fills};
 
 use crate::access::{Access, Figures};
 use crate::opening::read_file;
@@ -53,6 +53,7 @@ impl<S: Store> File<S> {
         ensures answer { outcome result ≡ open_answer self.old.access self.old.room.counts.room (S.Store.bytes self.old.store) }
         ensures marks { Marks self.old.access mark (outcome result) self.new.access }
         ensures lists { self.old.access ≡ None → ListsRows (opened_in self.old.room.counts.room (S.Store.bytes self.old.store)) self.new.room.lists }
+        ensures full { self.old.access ≡ None → Fills (opened_in self.old.room.counts.room (S.Store.bytes self.old.store)) self.new.room }
         ensures store { self.new.store ≡ self.old.store }
         ensures room { self.new.room.counts.room ≡ self.old.room.counts.room }
         ensures sound { Sound (S.Store.bytes self.old.store) self.old.room self.old.access → Sound (S.Store.bytes self.new.store) self.new.room self.new.access }

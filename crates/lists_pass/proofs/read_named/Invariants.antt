@@ -9,6 +9,6 @@ use Rattle.lists_pass.proofs.read_named.Given as goal
 abbrev pub invariant-loop-next : goal.invariant-loop-next
 invariant-loop-next g l =
     (l.room.counts ≡ l.initial.room.counts)
-    × ((log : Log) → Holds log (vec_items l.initial.room.counts.changes) l.initial.room.fragments l.initial.room.lists l.initial.room.pieces.rows
+    × ((log : Log) → Holds log (vec_items l.initial.room.counts.changes) l.initial.room.fragments l.initial.room.lists
     → Held l.initial.room.queue (named_first l.checked.header)
     → Opening (g.S.Store.bytes l.store) l.checked.header log l.next l.room.lists l.room.pieces.rows l.room.fragments l.room.queue)
