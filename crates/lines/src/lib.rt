@@ -22,7 +22,7 @@ use store::base::Store;
 use store::flat_store::Flat;
 use tables::room::Row;
 
-mod columns;
+pub mod columns;
 
 // A log in 65,536 bytes has at most this many entries.
 const MOST_ENTRIES: usize = 8_192;
